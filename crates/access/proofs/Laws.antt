@@ -1,0 +1,53 @@
+-- The state that a callee left, read back, and what a trap writes.
+-- Assumes nothing.
+use Prim.Native.Nat.{ℕ, _<_}
+use mathlib.Core.Path.{_≡_, _∙_}
+use mathlib.Core.List.{List}
+use native.Mathlib.Omega.{arith}
+use lib.Dec.{eqb}
+use lib.ListN.{length, length-set}
+use Rattle.laws.proofs.Bools.{by-test}
+use Rattle.machine.specs.Registers.{registerWords, withRegister}
+use Rattle.machine.specs.State.{counts, State, stateOf, encode, sideOf, withRegisters}
+use Rattle.machine.specs.Access.{trapNumber, trapRegisters}
+use Rattle.machine.specs.declared.Access.{Access}
+use Rattle.machine.specs.declared.Tag.{Tag}
+use Rattle.machine.specs.declared.Tag.the-variants.{Kept, Written}
+use Rattle.machine.specs.declared.Trap.{Trap}
+use Rattle.machine.specs.declared.Trap.the-variants as trap
+use Rattle.state.proofs.Parts.{Sized, sized-with-registers, sized-back}
+
+-- words that hold a state of the right size give it back
+pub left-back : {u : State} {left : List ℕ} → Sized counts u → left ≡ encode u → stateOf counts left ≡ u
+left-back {u} z e = rw e (sized-back counts u z)
+
+-- either side has 64 slots
+pub side-slots : (u : State) → Sized counts u → (side : ℕ) → length (sideOf u side) ≡ 64
+side-slots u z side = by-test (eqb side 0) (λ e. rw e (z .1)) (λ e. rw e (z .2))
+
+module _ (u : State) (z : Sized counts u) (file : List ℕ) (l : length file ≡ registerWords) {left : List ℕ} (e : left ≡ encode (withRegisters u file)) where
+  pub registers-back : stateOf counts left ≡ withRegisters u file
+  registers-back = left-back (sized-with-registers counts u z file l) e
+
+  -- one more register written
+  pub written-more : {next : List ℕ} (strand number value : ℕ)
+      → next ≡ encode (withRegisters (stateOf counts left) (withRegister (stateOf counts left .registers) strand number value))
+      → next ≡ encode (withRegisters u (withRegister file strand number value))
+  written-more strand number value f = f ∙ rw registers-back
+
+pub trap-length : (file : List ℕ) (a : Access) (t : Trap) (tag : Tag) → length (trapRegisters file a t tag) ≡ length file
+unfolding trapRegisters
+trap-length file a t Kept = simp length-set
+trap-length file a t (Written context) = simp length-set
+
+-- a trap's number is a byte
+pub number-small : (t : Trap) → trapNumber t < 256
+number-small (trap.InstructionAccessException fault) = omega arith
+number-small (trap.DataAccessException fault) = omega arith
+number-small trap.AddressNotAligned = omega arith
+number-small trap.PrivilegedAction = omega arith
+number-small trap.InstructionRealMiss = omega arith
+number-small trap.DataRealMiss = omega arith
+number-small trap.InstructionMiss = omega arith
+number-small trap.DataMiss = omega arith
+number-small trap.DataProtection = omega arith

@@ -1,0 +1,77 @@
+-- `access::look_up` meets its contract.
+use mathlib.Core.Path.{_≡_, sym, _∙_}
+use native.Mathlib.Omega.{arith}
+use borrow.Author.Needs.{needs}
+use Rattle.laws.proofs.Walks.{found-at}
+use Rattle.machine.specs.Questions.{kindSide}
+use Rattle.machine.specs.Slots.{noSlot, answersTo, search as lookup}
+use Rattle.machine.specs.State.{counts, State, stateOf, sideOf}
+use Rattle.machine.proofs.State.{kind-side}
+use Rattle.state.proofs.Parts.{sized-words}
+use Rattle.access.proofs.Laws.{side-slots}
+use Rattle.access.proofs.look_up.Statement.{statement}
+use Rattle.access.proofs.look_up.Tie as tie
+
+-- what the search of the access's side found
+found : (c : tie.After-search-side)
+    → (let s = c .before .before .before .before in
+    lookup (s .args .key) (sideOf (stateOf counts (s .args .state .now)) (kindSide (s .args .a .kind))) ≡ c .search-side .result)
+found c = sym (c .search-side .ensures ∙ rw (c .before .access-side .ensures))
+
+access-side-requires : tie.Need-access-side-requires
+access-side-requires c κs = search needs
+
+search-side-requires : tie.Need-search-side-requires
+search-side-requires c κs = omega (arith, kind-side (c .before .before .before .args .a .kind))
+
+enum-known-found : tie.Need-enum-known-found
+enum-known-found c = search needs
+
+settle-hit-requires : tie.Need-settle-hit-requires
+settle-hit-requires c κs =
+    let at = c .before .before in
+    let look = at .before .before in
+    let s = look .before .before .before .before in
+    let u : State = stateOf counts (s .args .state .now) in
+    let side = kindSide (s .args .a .kind) in
+    let i = found-at noSlot (answersTo (s .args .key)) (sideOf u side) _ (found look ∙ at .found .given .1) .0 in
+    (s .pre .0, s .pre .1, omega (arith, i, side-slots u (sized-words counts (s .args .state .now) (s .pre .0)) side), s .pre .2)
+
+enum-told : tie.Need-enum-told
+enum-told c = search needs
+
+settle-miss-requires : tie.Need-settle-miss-requires
+settle-miss-requires c κs = search needs
+
+same-length : tie.Need-same-length
+same-length c = search needs
+
+returns : tie.Need-returns
+returns c =
+    let call = c .before .before in
+    let at = call .before .before .before in
+    rw (found (at .before .before) ∙ at .found .given .1) (call .settle-hit .ensures)
+
+same-length-2 : tie.Need-same-length-2
+same-length-2 c = search needs
+
+returns-2 : tie.Need-returns-2
+returns-2 c =
+    let call = c .before .before in
+    let at = call .before .before in
+    rw (found (at .before .before) ∙ at .enum-told .given .1) (call .settle-miss .ensures)
+
+pub look-up-spec : {M : Type 1} → statement M
+look-up-spec =
+    tie.close
+    (tie.spec
+    access-side-requires
+    search-side-requires
+    enum-known-found
+    settle-hit-requires
+    enum-told
+    settle-miss-requires
+    same-length
+    returns
+    same-length-2
+    returns-2)

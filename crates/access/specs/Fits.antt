@@ -1,0 +1,28 @@
+-- What a trap's registers have room for: a byte of fault type, 13 bits of context.
+-- Assumes nothing.
+use Prim.Native.Nat.{_<_}
+use Rattle.machine.specs.Access.{trapFault}
+use Rattle.machine.specs.declared.Trap.{Trap}
+use Rattle.machine.specs.declared.Tag.{Tag}
+use Rattle.machine.specs.declared.Tag.the-variants.{Kept, Written}
+use Rattle.machine.specs.declared.Prepared.{Prepared}
+use Rattle.machine.specs.declared.Prepared.the-variants.{Stopped, Bypass, Lookup}
+use Rattle.machine.specs.declared.Judged.{Judged}
+use Rattle.machine.specs.declared.Judged.the-variants.{Faulted, Translated}
+
+abbrev pub FaultFits : Trap → Type 0
+FaultFits t = trapFault t < 256
+
+abbrev pub TagFits : Tag → Type 0
+TagFits Kept = Unit {0}
+TagFits (Written context) = context < 8192
+
+-- the traps that steps 1 to 4 and 6 to 7 take
+abbrev pub StopFits : Prepared → Type 0
+StopFits (Stopped t tag) = FaultFits t × TagFits tag
+StopFits (Bypass p) = Unit {0}
+StopFits (Lookup key) = Unit {0}
+
+abbrev pub JudgedFits : Judged → Type 0
+JudgedFits (Faulted t) = FaultFits t
+JudgedFits (Translated p) = Unit {0}

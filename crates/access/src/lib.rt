@@ -1,0 +1,335 @@
+// One access: document 01, "Access". Prepare (steps 1 to 4), lookup (5), judge (6 to 8), settle (used bit and registers).
+ghost use mathlib.Core.Path.{_≡_};
+ghost use mathlib.Core.Bool.{true, not, _&&_, _||_};
+ghost use Prim.Native.Nat.{_+_, _%_, _^_, _<_, _≤_};
+ghost use lib.Dec.{eqb};
+ghost use lib.ListN.{length};
+ghost use Rattle.laws.specs.Tests.{pick};
+ghost use Rattle.laws.specs.declared.Found.the-variants.{At, Nothing};
+ghost use Rattle.machine.specs.Words.{bits};
+ghost use Rattle.machine.specs.Registers.{withRegister, translates, registersSound};
+ghost use Rattle.machine.specs.Questions.{kindSide};
+ghost use Rattle.machine.specs.State.{counts, stateWords, stateOf, encode, withRegisters};
+ghost use Rattle.machine.specs.Access.{addressUsed, exception, trapTag, bypassTo, lookupKey, prepare, missTrap, faultType, judge, trapFault, trapRegisters, trapTo, settleFound, settle, accessTo};
+ghost use Rattle.machine.specs.declared.Prepared.the-variants.{Lookup};
+ghost use Rattle.machine.specs.declared.Tag.the-variants.{Kept};
+ghost use Rattle.access.specs.Fits.{FaultFits, TagFits, StopFits, JudgedFits};
+use laws::Found;
+use machine::Access;
+use machine::Answer;
+use machine::Judged;
+use machine::Key;
+use machine::Prepared;
+use machine::Tag;
+use machine::Translation;
+use machine::Trap;
+use machine::Trapped;
+use machine::VirtualAddress;
+
+fn bit_of(word: u64, place: u64) -> u64
+    requires { ⌜ place < 64 ⌝ }
+    ensures { λ r. ⌜ r ≡ bits place 1 word ⌝ }
+{
+    (word >> place) % 2
+}
+
+// Whether translation is on for the side of an access.
+fn translation_on(state: &[u64], a: Access) -> bool
+    requires { ⌜ (length (now state) ≡ stateWords counts) × (a .strand < 4) ⌝ }
+    ensures { λ r. ⌜ r ≡ translates (stateOf counts (now (state .entry)) .registers) (a .strand) (kindSide (a .kind)) ⌝ }
+{
+    let enables = state::read_register(state, a.strand, 4);
+    bit_of(enables, operands::access_side(a.kind) as u64) == 1
+}
+
+// The address used: with the mask on and mode 0 or 1, modulo 2^32.
+pub fn used_address(state: &[u64], strand: u8, address: VirtualAddress) -> VirtualAddress
+    requires { ⌜ (length (now state) ≡ stateWords counts) × (strand < 4) ⌝ }
+    ensures { λ r. ⌜ r ≡ addressUsed (stateOf counts (now (state .entry)) .registers) strand address ⌝ }
+{
+    if state::read_register(state, strand, 5) != 1 {
+        return address;
+    }
+    if 2 <= state::read_register(state, strand, 3) {
+        return address;
+    }
+    VirtualAddress(address.0 % 0x1_0000_0000)
+}
+
+fn exception_of(kind: u8, fault: u64) -> Trap
+    ensures trap { λ r. ⌜ r ≡ exception kind fault ⌝ }
+    ensures fault { λ r. ⌜ trapFault r ≡ fault ⌝ }
+{
+    if kind == 0 {
+        return Trap::InstructionAccessException(fault);
+    }
+    Trap::DataAccessException(fault)
+}
+
+// Tag access gets the selected context, or 0 where translation is off for the side.
+fn tag_written(state: &[u64], a: Access) -> Tag
+    requires { ⌜ (length (now state) ≡ stateWords counts) × (a .strand < 4)
+        × (registersSound (stateOf counts (now state) .registers) ≡ true) ⌝ }
+    ensures tag { λ r. ⌜ r ≡ trapTag (stateOf counts (now (state .entry)) .registers) a ⌝ }
+    ensures fits { λ r. ⌜ TagFits r ⌝ }
+{
+    if translation_on(state, a) {
+        return Tag::Written(operands::selected_context(state, a.strand, a.selector));
+    }
+    Tag::Written(0)
+}
+
+// Bit 39 of an address says whether it lies in memory (cp, which counts 1) or in I/O space (e, which counts 2).
+fn bypass_translation(used: VirtualAddress) -> Translation
+    ensures { λ r. ⌜ r ≡ bypassTo used ⌝ }
+{
+    Translation {
+        address: pages::bypass(used),
+        attributes: 1 + bit_of(used.0, 39),
+    }
+}
+
+fn key_of_access(state: &[u64], a: Access) -> Key
+    requires { ⌜ (length (now state) ≡ stateWords counts) × (a .strand < 4) ⌝ }
+    ensures { λ r. ⌜ r ≡ lookupKey (stateOf counts (now (state .entry)) .registers) a ⌝ }
+{
+    let on = translation_on(state, a);
+    let partition = state::read_register(state, a.strand, 0);
+    let context = operands::selected_context(state, a.strand, a.selector);
+    operands::key_for(!on, partition, context, a.used.0)
+}
+
+// Whether the address is a multiple of the size.
+fn aligned(used: VirtualAddress, size: u8) -> bool
+    requires { ⌜ size < 64 ⌝ }
+    ensures { λ r. ⌜ r ≡ eqb (used .0 % 2 ^ size) 0 ⌝ }
+{
+    used.0 % (1 << size as u64) == 0
+}
+
+// Mode 0, data, nucleus.
+fn is_user_nucleus(mode: u64, kind: u8, selector: u8) -> bool
+    ensures { λ r. ⌜ r ≡ (eqb mode 0 && (not (eqb kind 0) && eqb selector 2)) ⌝ }
+{
+    if mode != 0 {
+        return false;
+    }
+    if kind == 0 {
+        return false;
+    }
+    selector == 2
+}
+
+// Steps 1 to 4.
+fn prepare_access(state: &[u64], a: Access) -> Prepared
+    requires { ⌜ (length (now state) ≡ stateWords counts) × (a .strand < 4) × (a .size < 4)
+        × (registersSound (stateOf counts (now state) .registers) ≡ true) ⌝ }
+    ensures prepared { λ r. ⌜ r ≡ prepare (stateOf counts (now (state .entry)) .registers) a ⌝ }
+    ensures fits { λ r. ⌜ StopFits r ⌝ }
+{
+    if !aligned(a.used, a.size) {
+        return Prepared::Stopped(Trap::AddressNotAligned, Tag::Kept);
+    }
+    let mode = state::read_register(state, a.strand, 3);
+    if is_user_nucleus(mode, a.kind, a.selector) {
+        return Prepared::Stopped(Trap::PrivilegedAction, Tag::Kept);
+    }
+    if mode == 2 {
+        return Prepared::Bypass(bypass_translation(a.used));
+    }
+    if !pages::in_range(a.used.0) {
+        return Prepared::Stopped(exception_of(a.kind, 0x20), tag_written(state, a));
+    }
+    Prepared::Lookup(key_of_access(state, a))
+}
+
+fn miss_of(state: &[u64], a: Access) -> Trap
+    requires { ⌜ (length (now state) ≡ stateWords counts) × (a .strand < 4) ⌝ }
+    ensures trap { λ r. ⌜ r ≡ missTrap (stateOf counts (now (state .entry)) .registers) a ⌝ }
+    ensures fits { λ r. ⌜ FaultFits r ⌝ }
+{
+    if translation_on(state, a) {
+        if a.kind == 0 {
+            return Trap::InstructionMiss;
+        }
+        return Trap::DataMiss;
+    }
+    if a.kind == 0 {
+        return Trap::InstructionRealMiss;
+    }
+    Trap::DataRealMiss
+}
+
+// A fault type's weight where both tests hold.
+fn share(one: bool, other: bool, weight: u64) -> u64
+    ensures sum { λ r. ⌜ r ≡ pick (one && other) weight 0 ⌝ }
+    ensures small { λ r. ⌜ r ≤ weight ⌝ }
+{
+    if one {
+        if other {
+            return weight;
+        }
+    }
+    0
+}
+
+// The sum of the fault types that a word earns an access.
+fn fault_of(mode: u64, kind: u8, word: u64) -> u64
+    ensures fault { λ r. ⌜ r ≡ faultType mode kind word ⌝ }
+    ensures small { λ r. ⌜ r < 256 ⌝ }
+{
+    let privileged = share(bit_of(word, 8) == 1, mode == 0, 0x01);
+    let side_effect = share(kind == 4, bit_of(word, 11) == 1, 0x02);
+    let uncached = share(kind == 3, bit_of(word, 10) == 0, 0x04);
+    let no_fault_only = share(bit_of(word, 62) == 1, kind != 4, 0x10);
+    privileged + side_effect + uncached + no_fault_only
+}
+
+// Kind 2 or 3 and w is 0.
+fn is_write_denied(kind: u8, word: u64) -> bool
+    ensures { λ r. ⌜ r ≡ ((eqb kind 2 || eqb kind 3) && eqb (bits 6 1 word) 0) ⌝ }
+{
+    match kind {
+        2 | 3 => bit_of(word, 6) == 0,
+        _ => false,
+    }
+}
+
+// Steps 6 to 8.
+fn judge_word(state: &[u64], a: Access, word: u64) -> Judged
+    requires { ⌜ (length (now state) ≡ stateWords counts) × (a .strand < 4) ⌝ }
+    ensures judged { λ r. ⌜ r ≡ judge (stateOf counts (now (state .entry)) .registers) a word ⌝ }
+    ensures fits { λ r. ⌜ JudgedFits r ⌝ }
+{
+    let fault = fault_of(state::read_register(state, a.strand, 3), a.kind, word);
+    if fault != 0 {
+        return Judged::Faulted(exception_of(a.kind, fault));
+    }
+    if is_write_denied(a.kind, word) {
+        return Judged::Faulted(Trap::DataProtection);
+    }
+    let offset = pages::page_offset(word % 16, a.used.0);
+    Judged::Translated(Translation {
+        address: tte::physical_address(word, offset),
+        attributes: bit_of(word, 10) + 2 * bit_of(word, 11) + 4 * bit_of(word, 12),
+    })
+}
+
+// Writes a register that each side has: the base is its number on side 0.
+fn write_side(state: &mut [u64], a: Access, base: u8, value: u64)
+    requires { ⌜ (length (now state) ≡ stateWords counts) × (a .strand < 4) × (base < 31) ⌝ }
+    ensures { λ r. ⌜ now (state .exit) ≡ encode (withRegisters (stateOf counts (now (state .entry)))
+        (withRegister (stateOf counts (now (state .entry)) .registers) (a .strand) (base + kindSide (a .kind)) value)) ⌝ }
+{
+    state::write_register(state, a.strand, base + operands::access_side(a.kind), value);
+}
+
+// Every trap writes registers 22 and 24.
+fn write_fault(state: &mut [u64], a: Access, trap: Trap)
+    requires { ⌜ (length (now state) ≡ stateWords counts) × (a .strand < 4) × FaultFits trap ⌝ }
+    ensures { λ r. ⌜ now (state .exit) ≡ encode (withRegisters (stateOf counts (now (state .entry)))
+        (trapRegisters (stateOf counts (now (state .entry)) .registers) a trap Kept)) ⌝ }
+{
+    write_side(state, a, 22, a.used.0);
+    write_side(
+        state,
+        a,
+        24,
+        numbers::trap_number(trap) * 256 + numbers::trap_fault(trap),
+    );
+}
+
+// What a trap writes.
+fn write_trap(state: &mut [u64], a: Access, trap: Trap, tag: Tag)
+    requires { ⌜ (length (now state) ≡ stateWords counts) × (a .strand < 4) × FaultFits trap × TagFits tag ⌝ }
+    ensures { λ r. ⌜ now (state .exit) ≡ encode (withRegisters (stateOf counts (now (state .entry)))
+        (trapRegisters (stateOf counts (now (state .entry)) .registers) a trap tag)) ⌝ }
+{
+    write_fault(state, a, trap);
+    if let Tag::Written(context) = tag {
+        write_side(state, a, 20, a.used.0 / 0x2000 * 0x2000 + context);
+    }
+}
+
+fn take_trap(state: &mut [u64], a: Access, trap: Trap, tag: Tag) -> Answer
+    requires { ⌜ (length (now state) ≡ stateWords counts) × (a .strand < 4) × FaultFits trap × TagFits tag ⌝ }
+    ensures words { λ r. ⌜ now (state .exit) ≡ encode (trapTo (stateOf counts (now (state .entry))) a trap tag .state) ⌝ }
+    ensures answer { λ r. ⌜ r ≡ trapTo (stateOf counts (now (state .entry))) a trap tag .answer ⌝ }
+{
+    write_trap(state, a, trap, tag);
+    let used = a.used;
+    Answer::Trap(Trapped {
+        trap: trap,
+        address: used,
+        tag: operands::tag_of(state, a.strand, operands::access_side(a.kind)),
+    })
+}
+
+// A trap that writes tag access.
+fn take_tagged(state: &mut [u64], a: Access, trap: Trap) -> Answer
+    requires { ⌜ (length (now state) ≡ stateWords counts) × (a .strand < 4) × FaultFits trap
+        × (registersSound (stateOf counts (now state) .registers) ≡ true) ⌝ }
+    ensures words { λ r. ⌜ now (state .exit) ≡ encode (trapTo (stateOf counts (now (state .entry))) a trap
+        (trapTag (stateOf counts (now (state .entry)) .registers) a) .state) ⌝ }
+    ensures answer { λ r. ⌜ r ≡ trapTo (stateOf counts (now (state .entry))) a trap
+        (trapTag (stateOf counts (now (state .entry)) .registers) a) .answer ⌝ }
+{
+    let tag = tag_written(state, a);
+    take_trap(state, a, trap, tag)
+}
+
+// A miss traps and marks nothing.
+fn settle_miss(state: &mut [u64], a: Access) -> Answer
+    requires { ⌜ (length (now state) ≡ stateWords counts) × (a .strand < 4)
+        × (registersSound (stateOf counts (now state) .registers) ≡ true) ⌝ }
+    ensures words { λ r. ⌜ now (state .exit) ≡ encode (settleFound (stateOf counts (now (state .entry))) a Nothing .state) ⌝ }
+    ensures answer { λ r. ⌜ r ≡ settleFound (stateOf counts (now (state .entry))) a Nothing .answer ⌝ }
+{
+    let trap = miss_of(state, a);
+    take_tagged(state, a, trap)
+}
+
+// A hit is marked and judged.
+fn settle_hit(state: &mut [u64], a: Access, i: usize) -> Answer
+    requires { ⌜ (length (now state) ≡ stateWords counts) × (a .strand < 4) × (i < 64)
+        × (registersSound (stateOf counts (now state) .registers) ≡ true) ⌝ }
+    ensures words { λ r. ⌜ now (state .exit) ≡ encode (settleFound (stateOf counts (now (state .entry))) a (At i) .state) ⌝ }
+    ensures answer { λ r. ⌜ r ≡ settleFound (stateOf counts (now (state .entry))) a (At i) .answer ⌝ }
+{
+    let side = operands::access_side(a.kind);
+    let judged = judge_word(state, a, state::slot_of(state, side, i).word);
+    state::mark_used(state, side, i);
+    match judged {
+        Judged::Faulted(trap) => take_tagged(state, a, trap),
+        Judged::Translated(translation) => Answer::Physical(translation),
+    }
+}
+
+// Step 5 and what comes of it.
+fn look_up(state: &mut [u64], a: Access, key: Key) -> Answer
+    requires { ⌜ (length (now state) ≡ stateWords counts) × (a .strand < 4)
+        × (registersSound (stateOf counts (now state) .registers) ≡ true) ⌝ }
+    ensures words { λ r. ⌜ now (state .exit) ≡ encode (settle (stateOf counts (now (state .entry))) a (Lookup key) .state) ⌝ }
+    ensures answer { λ r. ⌜ r ≡ settle (stateOf counts (now (state .entry))) a (Lookup key) .answer ⌝ }
+{
+    let found = state::search_side(state, operands::access_side(a.kind), key);
+    match found {
+        Found::At(i) => settle_hit(state, a, i),
+        Found::Nothing => settle_miss(state, a),
+    }
+}
+
+// One access that passed its questions.
+pub fn access_to(state: &mut [u64], a: Access) -> Answer
+    requires { ⌜ (length (now state) ≡ stateWords counts) × (a .strand < 4) × (a .size < 4)
+        × (registersSound (stateOf counts (now state) .registers) ≡ true) ⌝ }
+    ensures words { λ r. ⌜ now (state .exit) ≡ encode (accessTo (stateOf counts (now (state .entry))) a .state) ⌝ }
+    ensures answer { λ r. ⌜ r ≡ accessTo (stateOf counts (now (state .entry))) a .answer ⌝ }
+{
+    let prepared = prepare_access(state, a);
+    match prepared {
+        Prepared::Stopped(trap, tag) => take_trap(state, a, trap, tag),
+        Prepared::Bypass(translation) => Answer::Physical(translation),
+        Prepared::Lookup(key) => look_up(state, a, key),
+    }
+}

@@ -1,0 +1,165 @@
+// Two worked examples of the paper, each on an empty side of 64 slots: which entry an insertion removes, and which it displaces.
+// The numbers printed stand in keys and entries or are what the library answers.
+ghost use mathlib.Core.Path.{_≡_};
+ghost use mathlib.Core.Bool.{false};
+ghost use Prim.Native.Nat.{_+_, _-_, _*_, _<_, _≤_, _%_};
+ghost use lib.ListN.{length};
+ghost use Rattle.machine.specs.Slots.{slotsOf, search};
+ghost use Rattle.machine.specs.Insertion.{entryOf};
+ghost use Rattle.machine.specs.declared.Key.the-variants.{Virtual};
+ghost use Rattle.examples.specs.Lookup.{foundSlot};
+use laws::Found;
+use machine::Key;
+use machine::Placed;
+use machine::Removal;
+use machine::Slot;
+use machine::VirtualAddress;
+
+// An address of a context of partition 0.
+fn key(context: u64, address: u64) -> Key
+    ensures { λ r. ⌜ r ≡ Virtual 0 context (record { 0 = address }) ⌝ }
+{
+    Key::Virtual {
+        partition: 0,
+        context: context,
+        address: VirtualAddress(address),
+    }
+}
+
+// An unlocked entry whose word has v, cp and w set and maps to 0x80000. Size code 0 is 8 KB, 1 is 64 KB.
+fn entry(key: Key, code: u64) -> Slot
+    requires { ⌜ code < 2 ⌝ }
+    ensures { λ r. ⌜ r ≡ entryOf key false (0x8000000000080440 + code) ⌝ }
+{
+    tlb_update::new_entry(key, false, 0x8000_0000_0008_0440 + code)
+}
+
+// The entry that answers to a key, or an empty slot.
+fn lookup(slots: &[u64], key: Key) -> Slot
+    ensures { λ r. ⌜ r ≡ foundSlot (slotsOf (now (slots .entry))) (search key (slotsOf (now (slots .entry)))) ⌝ }
+{
+    let Found::At(i) = tlb::search(slots, key) else {
+        return Slot {
+            owner: 0,
+            page: 0,
+            word: 0,
+            flags: 0,
+        };
+    };
+    tlb::slot_at(slots, i)
+}
+
+// The page of an entry, as in "8 KB at 0x402000 in context 5".
+fn print_page(x: Slot) {
+    io::print_decimal(1, pages::page_size(x.word % 16) / 1024);
+    io::write_all(1, b" KB at 0x");
+    io::print_hex(1, x.page, 1);
+    io::write_all(1, b" in context ");
+    io::print_decimal(1, x.owner % 0x2000);
+}
+
+// What a lookup finds: an entry's page, or nothing.
+fn print_lookup(slots: &[u64], context: u64, address: u64) {
+    io::write_all(1, b"  lookup of 0x");
+    io::print_hex(1, address, 1);
+    io::write_all(1, b" in context ");
+    io::print_decimal(1, context);
+    io::write_all(1, b": ");
+    let x = lookup(slots, key(context, address));
+    if tlb::is_live(x) {
+        print_page(x);
+    } else {
+        io::write_all(1, b"nothing");
+    }
+    io::write_all(1, b"\n");
+}
+
+// Whether the side is sound, and how many entries are live: they are counted by removing them all.
+fn print_side(slots: &mut [u64])
+    requires { ⌜ length (now slots) % 4 ≡ 0 ⌝ }
+{
+    let sound = tlb_sound::side_sound(slots);
+    io::write_all(1, b"  ");
+    io::print_decimal(1, tlb_update::remove(slots, Removal::Everything));
+    io::write_all(1, b" live, ");
+    if !sound {
+        io::write_all(1, b"not ");
+    }
+    io::write_all(1, b"sound\n");
+}
+
+// "An 8 KB page at 0x402000, then 64 KB at 0x400000, same context: the first is gone; under another context both live."
+fn overlap(first: u64, second: u64) {
+    let mut side = [0u64; 256];
+    let slots: &mut [u64] = &mut side;
+    let small = entry(key(first, 0x40_2000), 0);
+    let large = entry(key(second, 0x40_0000), 1);
+    tlb_update::insert(slots, small);
+    tlb_update::insert(slots, large);
+    print_page(small);
+    io::write_all(1, b", then ");
+    print_page(large);
+    io::write_all(1, b":\n");
+    print_lookup(slots, first, 0x40_2000);
+    print_side(slots);
+}
+
+// The key of insertion q, from 1: 8 KB pages one after the other.
+fn numbered(q: u64) -> Key
+    requires { ⌜ (1 ≤ q) × (q ≤ 66) ⌝ }
+    ensures { λ r. ⌜ r ≡ Virtual 0 5 (record { 0 = (q - 1) * 8192 }) ⌝ }
+{
+    key(5, (q - 1) * 8192)
+}
+
+// What insertion q displaced, and from which slot: that in which the new entry is found.
+fn print_displaced(q: u64, old: Slot, new: Found) {
+    io::write_all(1, b"  insertion ");
+    io::print_decimal(1, q);
+    io::write_all(1, b" displaces ");
+    print_page(old);
+    if let Found::At(i) = new {
+        io::write_all(1, b" from slot ");
+        io::print_decimal(1, i as u64);
+    }
+    io::write_all(1, b"\n");
+}
+
+// Insertion q, and what it displaces.
+fn insertion(slots: &mut [u64], q: u64)
+    requires { ⌜ (length (now slots) % 4 ≡ 0) × (1 ≤ q) × (q ≤ 66) ⌝ }
+{
+    let new = numbered(q);
+    if let Placed::Displaced(old) = tlb_update::insert(slots, entry(new, 0)) {
+        print_displaced(q, old, tlb::search(slots, new));
+    }
+}
+
+// Insertions 1 to 66.
+fn insertions(slots: &mut [u64])
+    requires { ⌜ length (now slots) % 4 ≡ 0 ⌝ }
+{
+    let mut q = 1;
+    while q <= 66 {
+        insertion(slots, q);
+        q += 1;
+    }
+}
+
+// "64 unlocked insertions into an empty side, then two more, none overlapping: the 65th displaces slot 0, the 66th slot 1."
+fn displacement() {
+    let mut side = [0u64; 256];
+    let slots: &mut [u64] = &mut side;
+    print_page(entry(numbered(1), 0));
+    io::write_all(1, b", and so on to ");
+    print_page(entry(numbered(66), 0));
+    io::write_all(1, b":\n");
+    insertions(slots);
+    print_side(slots);
+}
+
+fn main() {
+    overlap(5, 5);
+    overlap(5, 6);
+    displacement();
+}

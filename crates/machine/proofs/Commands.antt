@@ -1,0 +1,320 @@
+-- Commands on a side: the unit's and the ledger's agree. Assumes nothing.
+use Prim.Native.Nat.{ℕ, zero, suc, _+_, _*_, _-_, _/_, _%_, _^_, _≤_, _<_}
+use mathlib.Core.Path.{_≡_, refl, sym, ap, _∙_}
+use mathlib.Core.Bool.{Bool, true, false, not, _&&_}
+use mathlib.Core.List.{List, []}
+use mathlib.Core.Logic.{_↔_}
+use native.Mathlib.Omega.{arith}
+use lib.Dec.{eqb, ltb, leb}
+use lib.ListN.{length, getD}
+use borrow.Author.Tests.{eqb-true, eq-eqb, ltb-true}
+use mathlib.Core.Option.{Option, none, some}
+use Rattle.laws.specs.Tests.{tick, count, anyOf, allOf, without, find, first}
+use Rattle.laws.specs.declared.Found.{Found}
+use Rattle.laws.specs.declared.Found.the-variants.{At, Nothing}
+use Rattle.laws.proofs.Bools.{by-test, clash, and-left, and-right, and-both, or-other}
+use Rattle.laws.proofs.Finds.{stands-count, FindSays, find-says, find-only, find-zero}
+use Rattle.machine.specs.Slots.{noSlot, isLive, answersTo, partitionOf, isReal, contextOf}
+use Rattle.machine.specs.Pages.{inRange}
+use Rattle.machine.specs.Words.{wordSound}
+use Rattle.machine.specs.Insertion.{overlaps, removed, removes, candidate, placed, inserted, hasSlot}
+use Rattle.machine.specs.Sound.{slotSound}
+use Rattle.machine.specs.Registers.{partition, selected}
+use Rattle.machine.specs.Questions.{kindSide, flagReal, keyOf, asked, verdict}
+use Rattle.machine.specs.Access.{lookupKey, settleFound, accessTo}
+use Rattle.machine.specs.declared.Access.{Access}
+use Rattle.machine.specs.State.{Counts, slotCount, State, sideOf, withSide}
+use Rattle.machine.specs.Step.{placedAnswer, demap, act}
+use Rattle.machine.specs.Stream.{Bytes, answerBytes}
+use Rattle.machine.specs.Ledger.{Entry, Ledger, Name, nameIn, isNamed, line, lacksSlot, overlap, unlocked, Written, inserts, strikes, withEntries, isAt, inContext, inPartition, contextPicked, translationOn, Asked, askedSide, earlySteps, foundBy, misses, lookedUp, accesses, pointers, does}
+use Rattle.machine.specs.Demand3.{entryIn, InsertionSays, AccessSays}
+use Rattle.machine.specs.declared.Slot.{Slot}
+use Rattle.machine.specs.declared.Removal.{Removal}
+use Rattle.machine.specs.declared.Removal.the-variants as removal
+use Rattle.machine.specs.declared.Placed.{Placed}
+use Rattle.machine.specs.declared.Placed.the-variants.{Done, Displaced, Refused}
+use Rattle.machine.proofs.Insertion.{isRefused, slot-had}
+use Rattle.machine.proofs.Sound.{live-parts, sound-slot}
+use Rattle.machine.specs.declared.Command.{Command}
+use Rattle.machine.specs.declared.Command.the-variants as command
+use Rattle.machine.specs.declared.Answer.the-variants as answer
+use Rattle.machine.specs.declared.Verdict.the-variants.{Passed}
+use Rattle.machine.proofs.State.{strand-sound, kind-side, passed-asked}
+use Rattle.machine.proofs.Questions.{context-picked, write-bytes, write-alike, read-bytes, pointers-bytes}
+use Rattle.machine.proofs.Looks.{StepAlike, askedOf, key-alike, key-small, miss-alike, hit-alike, miss-not-hit, access-alike, fit-none, used-alike}
+use Rattle.machine.proofs.Bytes.{line-answer, name-back, line-kind}
+use Rattle.machine.proofs.Alike.{SideAlike, Alike}
+use Rattle.machine.proofs.Sides.{SameTest, page-test, context-test, partition-test, key-test, aligned, alike-nothing, alike-found, alike-one, alike-used, alike-count, alike-removed, alike-emptied, nameOf, named-self, DisplacedSays, alike-lacks, alike-done, alike-displaced, inserts-refused, inserts-done, inserts-displaced}
+
+-- ---- a side of two that are alike
+pub alike-side : {n : Counts} {u : State} {l : Ledger} (side : ℕ) → side < 2 → Alike n u l → SideAlike (slotCount n side) (sideOf u side) (l .entries side)
+alike-side zero b h = h .itlb
+alike-side (suc zero) b h = h .dtlb
+alike-side (suc (suc k)) b h = absurd (omega arith)
+
+pub alike-with-side : {n : Counts} {u : State} {l : Ledger} (side : ℕ) {s : List Slot} {m : List Entry} → side < 2 → Alike n u l
+    → SideAlike (slotCount n side) s m → Alike n (withSide u side s) (withEntries l side m)
+alike-with-side zero b h k = record { allowed = h .allowed; registers = h .registers; itlb = k; dtlb = h .dtlb }
+alike-with-side (suc zero) b h k = record { allowed = h .allowed; registers = h .registers; itlb = h .itlb; dtlb = k }
+alike-with-side (suc (suc j)) b h k = absurd (omega arith)
+
+-- used bits are nothing to the ledger
+pub alike-marked : {n : Counts} {u : State} {l : Ledger} (side : ℕ) {s : List Slot} → side < 2 → Alike n u l
+    → SideAlike (slotCount n side) s (l .entries side) → Alike n (withSide u side s) l
+alike-marked zero b h k = record { allowed = h .allowed; registers = h .registers; itlb = k; dtlb = h .dtlb }
+alike-marked (suc zero) b h k = record { allowed = h .allowed; registers = h .registers; itlb = h .itlb; dtlb = k }
+alike-marked (suc (suc j)) b h k = absurd (omega arith)
+
+-- ---- demaps
+module _ {n : Counts} {u : State} {l : Ledger} (h : Alike n u l) (side : ℕ) (b : side < 2) where
+  pub demap-bytes : (which : Removal) (p : Entry → Bool) → SameTest (removes which) p → strikes l side p .bytes ≡ answerBytes (demap u side which .answer)
+  unfolding answerBytes
+  demap-bytes which p t =
+      let s = alike-side side b h in
+      sym (line-answer 0 _ 0 (omega arith) (omega arith) (omega arith) ∙ ap (λ (k : ℕ). line 0 0 0 0 k 0) (alike-count s t))
+
+  pub demap-alike : (which : Removal) (p : Entry → Bool) → SameTest (removes which) p → Alike n (demap u side which .state) (strikes l side p .ledger)
+  demap-alike which p t = alike-with-side side b h (alike-removed (alike-side side b h) t)
+
+-- ---- insertion
+tick-small : (b : Bool) → tick b < 2
+tick-small true = omega arith
+tick-small false = omega arith
+
+range-below : (a : ℕ) → inRange a ≡ true → a < 2 ^ 64
+unfolding inRange
+range-below a h =
+    by-test (ltb a (2 ^ 47))
+    (λ e. omega (arith, ltb-true a (2 ^ 47) e))
+    (λ e. ltb-true a (2 ^ 64) (and-right (leb (2 ^ 64 - 2 ^ 47) a) _ (or-other (ltb a (2 ^ 47)) _ h e)))
+
+word-below : (w : ℕ) → wordSound w ≡ true → w < 2 ^ 64
+unfolding wordSound
+word-below w h = omega (arith, eqb-true (w / 2 ^ 63) 1 (and-left _ _ h))
+
+-- equal answers are of one kind
+answer-kind : {b c : Bytes} → b ≡ c → getD b 0 0 ≡ getD c 0 0
+answer-kind e = ap (λ (b : Bytes). getD b 0 0) e
+
+-- what the answer names is the displaced entry
+displaced-name : (x : Slot) → slotSound x ≡ true → isLive x ≡ true → isNamed (nameIn (answerBytes (placedAnswer (Displaced x)))) (entryIn x) ≡ true
+unfolding answerBytes
+displaced-name x k l =
+    let w = live-parts x k l in
+    let (q, a) = aligned x k l in
+    let p : x .page < 2 ^ 64 = range-below (x .page) (w .range) in
+    let e : nameIn (answerBytes (placedAnswer (Displaced x))) ≡ nameOf x =
+    name-back (omega (arith, w .partition)) (omega (arith, tick-small (isReal x))) (omega (arith, w .context)) (word-below (x .word) (w .word)) in
+    rw e (named-self x)
+
+pub insertion-says : {n : ℕ} {s : List Slot} {m : List Entry} → SideAlike n s m → (new : Slot) → slotSound new ≡ true → isLive new ≡ true
+    → InsertionSays n s m (entryIn new) (answerBytes (placedAnswer (placed candidate new s)))
+unfolding answerBytes
+insertion-says {n} {s} {m} h new k l = go (placed candidate new s) refl
+  where
+    e : Entry
+    e = entryIn new
+
+    go : (r : Placed) → placed candidate new s ≡ r → InsertionSays n s m e (answerBytes (placedAnswer r))
+    go Done f = record {
+      displaced = (λ z. absurd (omega arith), λ z. clash (and-both _ _ (eq-eqb _ _ (z .0)) (eq-eqb _ _ (z .1))) (alike-done h new k l f .0));
+      named = λ z. absurd (omega arith);
+      refused = (λ z. absurd (omega (arith, answer-kind z, line-kind 5 13 0 0 0 0)), λ z. clash (and-both _ _ (eq-eqb _ _ (z .0)) (eq-eqb _ _ (z .2))) (alike-done h new k l f .0));
+    }
+    go (Displaced x) f =
+        let w : DisplacedSays n new s m x = alike-displaced h new k l x f in
+        let some : 1 ≤ count unlocked m = stands-count unlocked m (entryIn x) (w .free) (w .listed) in
+        record {
+          displaced = (λ z. (w .full, w .apart, some), λ z. refl);
+          named = λ z. (
+            w .index,
+            w .chosen,
+            rw (w .there) (displaced-name x (w .sound) (w .live)),
+            rw (w .there) (w .listed),
+            rw (w .there) (w .free),
+          );
+          refused = (λ z. absurd (omega (arith, answer-kind z, line-kind 5 13 0 0 0 0)), λ z. absurd (omega (arith, z .1)));
+        }
+    go Refused f =
+        let t : lacksSlot n e m ≡ true = alike-lacks h new k l ∙ ap not (slot-had candidate new s) ∙ rw f in
+        let full : length m ≡ n = eqb-true _ _ (and-left _ _ t) in
+        let locked : count unlocked m ≡ 0 = eqb-true _ _ (and-left _ _ (and-right (eqb (length m) n) _ t)) in
+        let apart : count (overlap e) m ≡ 0 = eqb-true _ _ (and-right (eqb (count unlocked m) 0) _ (and-right (eqb (length m) n) _ t)) in
+        record {
+          displaced = (λ z. absurd (omega arith), λ z. absurd (omega (arith, z .2)));
+          named = λ z. absurd (omega arith);
+          refused = (λ z. (full, locked, apart), λ z. line-answer 5 0 0 (omega arith) (omega arith) (omega arith));
+        }
+
+-- the ledger, told what the unit's answer names, answers likewise; and but for a refusal the two stay alike
+module _ {n : Counts} {u : State} {l : Ledger} (h : Alike n u l) (side : ℕ) (b : side < 2) (new : Slot) (k : slotSound new ≡ true) (v : isLive new ≡ true) where
+  abbrev answered : Placed → Bytes
+  answered r = answerBytes (placedAnswer r)
+
+  abbrev entered : Placed → Written
+  entered r = inserts (slotCount n side) l side (entryIn new) (nameIn (answered r))
+
+  abbrev pub Inserted : Placed → Type 0
+  Inserted Done = Alike n (withSide u side (inserted candidate new (sideOf u side))) (entered Done .ledger)
+  Inserted (Displaced x) = Alike n (withSide u side (inserted candidate new (sideOf u side))) (entered (Displaced x) .ledger)
+  Inserted Refused = entered Refused .ledger ≡ l
+
+  pub insert-agrees : (r : Placed) → placed candidate new (sideOf u side) ≡ r → (entered r .bytes ≡ answered r) × Inserted r
+  unfolding answerBytes
+  insert-agrees Done f =
+      let s = alike-side side b h in
+      rw (inserts-done l side s new k v (nameIn (answered Done)) f) (
+        sym (line-answer 0 0 0 (omega arith) (omega arith) (omega arith)),
+        alike-with-side side b h (alike-done s new k v f .1),
+      )
+  insert-agrees (Displaced x) f =
+      let s = alike-side side b h in
+      let w = alike-displaced s new k v x f in
+      let t = displaced-name x (w .sound) (w .live) in
+      let p = live-parts x (w .sound) (w .live) in
+      rw (inserts-displaced l side s new k v (nameIn (answered (Displaced x))) x f t) (
+        sym (line-answer 4 _ _ (omega arith) (omega (arith, p .partition)) (omega (arith, tick-small (isReal x)))),
+        alike-with-side side b h (w .after _ t),
+      )
+  insert-agrees Refused f =
+      let s = alike-side side b h in
+      let e : hasSlot candidate new (sideOf u side) ≡ false = slot-had candidate new (sideOf u side) ∙ rw f in
+      rw (inserts-refused l side s new k v (nameIn (answered Refused)) e) (sym (line-answer 5 0 0 (omega arith) (omega arith) (omega arith)), refl)
+
+  -- with a slot to be had the two stay alike; with none the insertion is refused, and the ledger is as it was
+  pub insert-alike : hasSlot candidate new (sideOf u side) ≡ true
+      → Alike n (withSide u side (inserted candidate new (sideOf u side))) (entered (placed candidate new (sideOf u side)) .ledger)
+  insert-alike e = go (placed candidate new (sideOf u side)) (sym (slot-had candidate new (sideOf u side)) ∙ e) (insert-agrees _ refl .1)
+    where
+      go : (r : Placed) → not (isRefused r) ≡ true → Inserted r → Alike n (withSide u side (inserted candidate new (sideOf u side))) (entered r .ledger)
+      go Done t a = a
+      go (Displaced x) t a = a
+      go Refused t a = clash t refl
+
+  pub insert-refused : hasSlot candidate new (sideOf u side) ≡ false
+      → (placed candidate new (sideOf u side) ≡ Refused) × (entered (placed candidate new (sideOf u side)) .ledger ≡ l)
+  insert-refused e =
+      let f : placed candidate new (sideOf u side) ≡ Refused = go (placed candidate new (sideOf u side)) (sym (slot-had candidate new (sideOf u side)) ∙ e) in
+      (f, rw f (insert-agrees Refused f .1))
+    where
+      go : (r : Placed) → not (isRefused r) ≡ false → r ≡ Refused
+      go Done t = clash refl t
+      go (Displaced x) t = clash refl t
+      go Refused t = refl
+
+-- ---- what an access that looks up gets
+access-says : (l : Ledger) (a : Asked) (b : Bytes) → count (foundBy l a) (l .entries (askedSide a)) ≤ 1
+    → b ≡ lookedUp l a (find (foundBy l a) (l .entries (askedSide a))) .bytes → AccessSays l a b
+access-says l a b one e = record {
+  one = one;
+  hit = λ x s t. e ∙ ap (λ (o : Option Entry). lookedUp l a o .bytes) (find-only p m x t s one);
+  missed = (λ f. zero-by (find p m) (find-says p m) (sym f ∙ e), λ z. e ∙ ap (λ (o : Option Entry). lookedUp l a o .bytes) (find-zero p m z));
+}
+  where
+    m : List Entry
+    m = l .entries (askedSide a)
+
+    p : Entry → Bool
+    p = foundBy l a
+
+    zero-by : (o : Option Entry) → FindSays p m o → misses l a .bytes ≡ lookedUp l a o .bytes → count p m ≡ 0
+    zero-by none f g = f
+    zero-by (some x) f g = absurd (miss-not-hit l a x g)
+
+-- ---- each command that no question refused, but for the insertion
+ruleset conj = (and-left, and-right, ltb-true)
+
+-- the insertion is apart: it may find no slot
+abbrev pub NoInsertion : Command → Type 0
+NoInsertion (command.Write strand number value) = Unit {0}
+NoInsertion (command.Insert strand side flags word) = ⊥
+NoInsertion (command.DemapPage strand side selector flags address) = Unit {0}
+NoInsertion (command.DemapContext strand side selector) = Unit {0}
+NoInsertion (command.DemapAll strand side) = Unit {0}
+NoInsertion (command.Invalidate side) = Unit {0}
+NoInsertion (command.Access strand kind selector size address) = Unit {0}
+NoInsertion (command.Read strand number) = Unit {0}
+NoInsertion (command.Pointers strand side) = Unit {0}
+
+done-bytes : (k : ℕ) → answerBytes (answer.Done k) ≡ line 0 0 0 0 k 0
+unfolding answerBytes
+done-bytes k = line-answer 0 k 0 (omega arith) (omega arith) (omega arith)
+
+module _ {n : Counts} {u : State} {l : Ledger} (h : Alike n u l) where
+  -- the test of a demap, in the unit's words and in the ledger's
+  page-same : (strand selector flags address : ℕ) → strand < 4 → selector < 3 → flags < 2
+      → SameTest (removes (removal.Page (keyOf (flagReal flags) (partition (u .registers) strand) (selected (u .registers) strand selector) address)))
+      (isAt (l .registers strand 0) (eqb flags 1) (contextPicked l strand selector) address)
+  page-same strand selector flags address s c f =
+      let w = strand-sound (u .registers) strand (h .allowed) s in
+      let e : flags % 2 ≡ flags = omega arith in
+      rw (h .registers strand 0 s (omega arith), context-picked h strand s selector c, e)
+      (page-test (partition (u .registers) strand) (eqb flags 1) (selected (u .registers) strand selector) address (w .partitions) (w .contexts selector))
+
+  context-same : (strand selector : ℕ) → strand < 4 → selector < 3
+      → SameTest (removes (removal.Context (partition (u .registers) strand) (selected (u .registers) strand selector)))
+      (inContext (l .registers strand 0) (contextPicked l strand selector))
+  context-same strand selector s c =
+      let w = strand-sound (u .registers) strand (h .allowed) s in
+      rw (h .registers strand 0 s (omega arith), context-picked h strand s selector c)
+      (context-test (partition (u .registers) strand) (selected (u .registers) strand selector) (w .partitions) (w .contexts selector))
+
+  demap-does : (side : ℕ) (which : Removal) (p : Entry → Bool) → side < 2 → SameTest (removes which) p → StepAlike n (demap u side which) (strikes l side p)
+  demap-does side which p b t = record { bytes = sym (demap-bytes h side b which p t); alike = demap-alike h side b which p t }
+
+  -- ---- the lookup itself
+  looked : (a : Access) → SideAlike (slotCount n (kindSide (a .kind))) (sideOf u (kindSide (a .kind))) (l .entries (kindSide (a .kind)))
+  looked a = alike-side (kindSide (a .kind)) (kind-side (a .kind)) h
+
+  key-same : (a : Access) (s : a .strand < 4) (c : a .selector < 3)
+      → SameTest (answersTo (keyOf (not (translationOn l (askedOf a))) (l .registers (a .strand) 0) (contextPicked l (a .strand) (a .selector)) (a .used .0))) (foundBy l (askedOf a))
+  key-same a s c = key-test _ (not (translationOn l (askedOf a))) _ (a .used .0) (key-small h a s c .0) (key-small h a s c .1)
+
+  looked-one : (a : Access) (s : a .strand < 4) (c : a .selector < 3) → count (foundBy l (askedOf a)) (l .entries (kindSide (a .kind))) ≤ 1
+  looked-one a s c = alike-one (looked a) _ (not (translationOn l (askedOf a))) _ (a .used .0) (key-small h a s c .0) (key-small h a s c .1)
+
+  found-alike : (a : Access) (s : a .strand < 4) (c : a .selector < 3) (f : Found) → first (answersTo (lookupKey (u .registers) a)) (sideOf u (kindSide (a .kind))) ≡ f
+      → StepAlike n (settleFound u a f) (lookedUp l (askedOf a) (find (foundBy l (askedOf a)) (l .entries (kindSide (a .kind)))))
+  found-alike a s c Nothing e = rw (alike-nothing (looked a) (key-same a s c) (rw (key-alike h a s c) at e)) (miss-alike h a s c)
+  found-alike a s c (At i) e =
+      let f = alike-found (looked a) (key-same a s c) i (looked-one a s c) (rw (key-alike h a s c) at e) in
+      let k = kindSide (a .kind) in
+      let x = getD (sideOf u k) i noSlot in
+      let marked = alike-marked k (kind-side (a .kind)) h (alike-used (looked a) i (f .0)) in
+      let good : wordSound (x .word) ≡ true = live-parts x (sound-slot (sideOf u k) i (looked a .sound)) (f .0) .word in
+      rw (f .1) (hit-alike marked a s c (entryIn x) refl good)
+
+  access-does : (a : Access) → a .strand < 4 → a .selector < 3 → StepAlike n (accessTo u a) (accesses l (askedOf a))
+  unfolding accesses
+  access-does a s c = access-alike h a s c _ (found-alike a s c _ refl)
+
+  pub access-told : (a : Access) → a .strand < 4 → a .selector < 3 → anyOf (λ q. q .0) (earlySteps l (askedOf a)) ≡ false
+      → AccessSays l (askedOf a) (answerBytes (accessTo u a .answer))
+  unfolding accesses
+  access-told a s c e = access-says l (askedOf a) _ (looked-one a s c) (access-does a s c .bytes ∙ ap (λ (w : Written). w .bytes) (fit-none (earlySteps l (askedOf a)) _ e))
+
+  -- a command that passed and is no insertion
+  pub does-alike : (c : Command) → verdict u c ≡ Passed → (d : Name) → NoInsertion c → StepAlike n (act u c) (does (slotCount n) l c d)
+  unfolding act does asked allOf pointers
+  does-alike (command.Write strand number value) v d t = record { bytes = write-bytes u strand number value; alike = write-alike h strand number value v }
+  does-alike (command.Insert strand side flags word) v d t = absurd t
+  does-alike (command.DemapPage strand side selector flags address) v d t =
+      let q = passed-asked u (command.DemapPage strand side selector flags address) v in
+      demap-does side _ _ (search conj) (page-same strand selector flags address (search conj) (search conj) (search conj))
+  does-alike (command.DemapContext strand side selector) v d t =
+      let q = passed-asked u (command.DemapContext strand side selector) v in
+      demap-does side _ _ (search conj) (context-same strand selector (search conj) (search conj))
+  does-alike (command.DemapAll strand side) v d t =
+      let q = passed-asked u (command.DemapAll strand side) v in
+      let s : strand < 4 = search conj in
+      demap-does side _ _ (search conj) (rw (h .registers strand 0 s (omega arith)) (partition-test (partition (u .registers) strand)))
+  does-alike (command.Invalidate side) v d t =
+      let q = passed-asked u (command.Invalidate side) v in
+      let b : side < 2 = search conj in
+      record { bytes = done-bytes 0; alike = alike-with-side side b h (alike-emptied (alike-side side b h)) }
+  does-alike (command.Access strand kind selector size address) v d t =
+      let q = passed-asked u (command.Access strand kind selector size address) v in
+      let s : strand < 4 = search conj in
+      rw (← (used-alike h strand address s)) (access-does _ s (search conj))
+  does-alike (command.Read strand number) v d t = record { bytes = read-bytes h strand number v; alike = h }
+  does-alike (command.Pointers strand side) v d t = record { bytes = pointers-bytes h strand side v; alike = h }

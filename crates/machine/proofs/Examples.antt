@@ -1,0 +1,21 @@
+-- The starred examples of document 01, by computation. Assumes nothing.
+use mathlib.Core.Path.{_≡_, refl}
+use Rattle.machine.specs.Pages.{inRange, listed, pageShift}
+use Rattle.machine.specs.Words.{frame, physicalAt}
+use Rattle.machine.specs.Registers.{writable, allowed, resetStrands}
+use Rattle.machine.specs.Questions.{asked, ask, verdict}
+use Rattle.machine.specs.Access.{prepare, faultType, judge}
+use Rattle.machine.specs.Step.{tsbOffset, tsbPointer}
+use Rattle.machine.specs.Examples.{Starred}
+
+pub starred : Starred
+unfolding inRange pageShift frame physicalAt writable allowed resetStrands asked ask verdict prepare faultType judge tsbOffset tsbPointer
+starred = record {
+  range = (refl, refl, refl, refl);
+  accepted = λ u. refl;
+  refused = λ u. (_, refl, refl);
+  large = refl;
+  privileged = (refl, refl, refl, (_, refl, refl, refl));
+  bypassed = (_, refl, refl, refl);
+  pointers = (refl, refl);
+}

@@ -1,0 +1,19 @@
+-- Document 01's printed run, by computation on the definitions: 60 bytes, five answers, all bytes taken. Assumes nothing.
+use mathlib.Core.Path.{refl}
+use Rattle.laws.specs.Tests.{allBelow, count, anyOf, allOf, pairwise, without, find, firstFrom}
+use Rattle.machine.specs.Pages.{inRange, listed, pageShift}
+use Rattle.machine.specs.Words.{wordSound, wordInsertable, frame, physicalAt}
+use Rattle.machine.specs.Slots.{slotsOf, wordsOf, answersTo}
+use Rattle.machine.specs.Insertion.{overlaps, removes, entryOf, wants, choice, inserted, placed, hasSlot}
+use Rattle.machine.specs.Sound.{ownerSound, pageSound, liveSound, emptySound, slotSound, sideSound}
+use Rattle.machine.specs.Registers.{known, writable, baseAllowed, configurationAllowed, allowed, registersSound, resetStrands}
+use Rattle.machine.specs.State.{stateOf, encode, reset, sideFits, sound, wordsSound}
+use Rattle.machine.specs.Questions.{asked, ask, verdict}
+use Rattle.machine.specs.Access.{prepare, faultType, judge, trapRegisters}
+use Rattle.machine.specs.Step.{tsbOffset, tsbPointer, act, step}
+use Rattle.machine.specs.Examples.{given, printed, PrintedRun}
+use Rattle.machine.specs.Stream.{eight, decodeAt, answerBytes, takes, after, answersBytes, finish, runOf}
+
+pub printed-run : PrintedRun
+unfolding PrintedRun given printed allBelow count anyOf allOf pairwise without find firstFrom inRange listed pageShift wordSound wordInsertable frame physicalAt slotsOf wordsOf answersTo overlaps removes entryOf wants choice inserted placed hasSlot ownerSound pageSound liveSound emptySound slotSound sideSound known writable baseAllowed configurationAllowed allowed registersSound resetStrands stateOf encode reset sideFits sound wordsSound asked ask verdict prepare faultType judge trapRegisters tsbOffset tsbPointer act step eight decodeAt answerBytes takes after answersBytes finish runOf
+printed-run = (refl, refl, refl, refl)

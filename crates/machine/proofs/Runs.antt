@@ -1,0 +1,268 @@
+-- Laws of a run: what it takes of its bytes and why it ends, what it leaves, and the run turn by turn. They hold of any state.
+-- Assumes nothing.
+use Prim.Native.Nat.{ℕ, zero, suc, _+_, _*_, _-_, _≤_, _<_}
+use mathlib.Core.Path.{_≡_, refl, ap, _∙_}
+use mathlib.Core.Bool.{Bool, true, false, cond}
+use mathlib.Core.List.{List, _++_}
+use native.Mathlib.Nat.{zero-add, add-zero}
+use native.Mathlib.Omega.{arith}
+use borrow.Author.Tests.{ltb-true, ltb-false, lt-ltb, le-ltb}
+use lib.Dec.{T, eqb, leb, ltb, lit<, lit≤}
+use lib.ListN.{length, take, drop}
+use lib.Seq.{sets, length-sets}
+use Rattle.laws.proofs.Bools.{by-test}
+use Rattle.laws.proofs.Stores.{sets-append, take-sets, drop-sets}
+use Rattle.machine.specs.State.{Counts, State, stateOf, encode, wordsSound}
+use Rattle.machine.specs.Step.{step}
+use Rattle.machine.specs.Stream.{Bytes, Taken, Outcome, byte, whole, decodeAt, answerBytes, ended, more, takesOne, takes, takenOf, after, answersBytes, finish, runOf}
+use Rattle.machine.specs.Demand3.{Reads, none, next, Ended, undecoded, full, commandsOf}
+use Rattle.machine.specs.Demand3 as demand
+use Rattle.machine.specs.declared.Command.{Command}
+use Rattle.machine.specs.declared.Decoded.{Decoded}
+use Rattle.machine.specs.declared.Decoded.the-variants.{Known, Stop}
+use Rattle.machine.proofs.Bytes.{answer-length, answers-length}
+
+-- ---- what is decoded
+-- a command has two bytes at least and lies within the input; a stop is 2 or 3
+unfoldable Within : Bytes → ℕ → Decoded → Type 0
+Within s at (Known c width) = (2 ≤ width) × (at + width ≤ length s)
+Within s at (Stop k) = (1 < k) × (k < 4)
+
+module _ (s : Bytes) (at : ℕ) where
+  -- one command byte of the decoder
+  arm : (b : Bool) (width : ℕ) (c : Command) (others : Decoded) → T (leb 2 width) → Within s at others → Within s at (cond b (whole s at width c) others)
+  unfolding Within
+  arm false width c others h o = o
+  arm true width c others h o = by-test (ltb (length s - at) width)
+      (λ e. rw e (lit< tt, lit< tt))
+      (λ e. let f : (2 ≤ width) × (width ≤ length s - at) = (lit≤ h, ltb-false _ _ e) in rw e (f .0, omega arith))
+
+  unknown : Within s at (Stop 2)
+  unfolding Within
+  unknown = (lit< tt, lit< tt)
+
+  decode-within : Within s at (decodeAt s at)
+  unfolding decodeAt
+  decode-within =
+      let is : ℕ → Bool = eqb (byte s at) in
+      arm (is 1) 11 _ _ tt (arm (is 2) 12 _ _ tt (arm (is 3) 13 _ _ tt (arm (is 4) 4 _ _ tt (arm (is 5) 3 _ _ tt
+      (arm (is 6) 2 _ _ tt (arm (is 7) 13 _ _ tt (arm (is 8) 3 _ _ tt (arm (is 9) 3 _ _ tt unknown))))))))
+
+  pub decode-width : {c : Command} {width : ℕ} → decodeAt s at ≡ Known c width → (2 ≤ width) × (at + width ≤ length s)
+  unfolding Within
+  decode-width e = rw e at decode-within
+
+  pub decode-stop : {k : ℕ} → decodeAt s at ≡ Stop k → (1 < k) × (k < 4)
+  unfolding Within
+  decode-stop e = rw e at decode-within
+
+-- ---- what a run takes
+-- from a position, with room left: `takes` where its turns are enough
+data Takes (input : Bytes) : ℕ → ℕ → Taken → Type 0 where
+  at-end : {at room : ℕ} → length input ≤ at → Takes input at room (ended 0)
+  at-stop : {at room k : ℕ} → at < length input → decodeAt input at ≡ Stop k → Takes input at room (ended k)
+  no-room : {at room width : ℕ} {c : Command} → at < length input → decodeAt input at ≡ Known c width → room < 24 → Takes input at room (ended 4)
+  one : {at room width : ℕ} {c : Command} {rest : Taken} → at < length input → decodeAt input at ≡ Known c width → 24 ≤ room →
+      Takes input (at + width) (room - 24) rest → Takes input at room (more c width rest)
+
+module _ (input : Bytes) where
+  takes-one : (d : Decoded) {at room : ℕ} (rest : ℕ → Taken) → at < length input → decodeAt input at ≡ d →
+      ((width : ℕ) → 2 ≤ width → Takes input (at + width) (room - 24) (rest width)) → Takes input at room (takesOne d room rest)
+  takes-one (Stop k) rest h e r = at-stop h e
+  takes-one (Known c width) {at} {room} rest h e r = by-test (ltb room 24)
+      (λ f. rw f (no-room h e (ltb-true room 24 f)))
+      (λ f. rw f (one h e (ltb-false room 24 f) (r width (decode-width input at e .0))))
+
+  -- a turn takes a byte at least, so turns for the bytes left are enough
+  takes-all : (turns : ℕ) {at room : ℕ} → length input ≤ at + turns → Takes input at room (takes turns input at room)
+  unfolding takes
+  takes-all zero {at} h = let l : length input ≤ at = omega arith in at-end l
+  takes-all (suc turns) {at} {room} h = by-test (ltb at (length input))
+      (λ f. rw f (takes-one (decodeAt input at) (λ width. takes turns input (at + width) (room - 24)) (ltb-true at (length input) f) refl
+      (λ width w. takes-all turns (omega arith))))
+      (λ f. rw f (at-end (ltb-false at (length input) f)))
+
+  -- and more turns change nothing
+  takes-only : (turns : ℕ) {at room : ℕ} {t : Taken} → Takes input at room t → length input ≤ at + turns → takes turns input at room ≡ t
+  unfolding takes
+  takes-only zero (at-end h) l = refl
+  takes-only zero (at-stop h e) l = absurd (omega arith)
+  takes-only zero (no-room h e f) l = absurd (omega arith)
+  takes-only zero (one h e f r) l = absurd (omega arith)
+  takes-only (suc turns) (at-end h) l = rw le-ltb
+  takes-only (suc turns) (at-stop h e) l = rw (lt-ltb, e)
+  takes-only (suc turns) (no-room h e f) l = rw (lt-ltb _ (length input) h, e, lt-ltb _ 24 f)
+  takes-only (suc turns) {at} (one h e f r) l =
+      rw (lt-ltb _ (length input) h, e, le-ltb _ 24 f, takes-only turns r (omega (arith, decode-width input at e)))
+
+  reads : {at room : ℕ} {t : Taken} → Takes input at room t → Reads input at (t .commands) (at + t .width)
+  reads {at} (at-end h) = rw add-zero none
+  reads {at} (at-stop h e) = rw add-zero none
+  reads {at} (no-room h e f) = rw add-zero none
+  reads {at} (one {width = width} {rest = rest} h e f r) =
+      let m : at + (width + rest .width) ≡ at + width + rest .width = omega arith in
+      rw m (next e (reads r))
+
+  -- the answers fit into the room
+  fits : {at room : ℕ} {t : Taken} → Takes input at room t → length (t .commands) * 24 ≤ room
+  fits (at-end h) = omega arith
+  fits (at-stop h e) = omega arith
+  fits (no-room h e f) = omega arith
+  fits (one h e f r) = omega (arith, fits r)
+
+  -- why a run ended, of which `answered` commands are answered before
+  ends : (all answered : ℕ) {at room : ℕ} {t : Taken} → Takes input at room t → at ≤ length input → answered * 24 + room ≡ all →
+      Ended input all (answered + length (t .commands)) (at + t .width) (t .stop)
+  ends all n {at} (at-end h) l q = demand.whole (omega arith)
+  ends all n {at} (at-stop h e) l q = rw (add-zero n, add-zero at) (undecoded h e)
+  ends all n {at} (no-room h e f) l q = rw (add-zero n, add-zero at) (full h e (omega arith))
+  ends all n {at} (one {width = width} {rest = rest} h e f r) l q =
+      let a : n + suc (length (rest .commands)) ≡ n + 1 + length (rest .commands) = omega arith in
+      let b : at + (width + rest .width) ≡ at + width + rest .width = omega arith in
+      rw (a, b) (ends all (n + 1) r (decode-width input at e .1) (omega arith))
+
+  ended-stop : {room answered taken k : ℕ} → Ended input room answered taken k → k ≡ 1 → ⊥
+  ended-stop (demand.whole h) q = omega arith
+  ended-stop {taken} (undecoded h e) q = omega (arith, decode-stop input taken e)
+  ended-stop (full h e f) q = omega arith
+
+  module _ (room : ℕ) where
+    taken-all : Takes input 0 room (takenOf input room)
+    taken-all = takes-all (length input) (omega arith)
+
+    pub takes-reads : Reads input 0 (takenOf input room .commands) (takenOf input room .width)
+    takes-reads = rw zero-add at (reads taken-all)
+
+    pub takes-ended : Ended input room (length (takenOf input room .commands)) (takenOf input room .width) (takenOf input room .stop)
+    takes-ended = simp zero-add at (ends room 0 taken-all (omega arith) (omega arith))
+
+    pub takes-stop : takenOf input room .stop ≡ 1 → ⊥
+    takes-stop = ended-stop takes-ended
+
+    pub takes-room : length (takenOf input room .commands) * 24 ≤ room
+    takes-room = fits taken-all
+
+-- ---- what a run from a sound state leaves
+module _ (n : Counts) (words : List ℕ) (input output : Bytes) (h : wordsSound n words ≡ true) where
+  pub run-answered : runOf n words input output .answered ≡ length (commandsOf input output)
+  unfolding runOf finish
+  run-answered = rw (h, zero-add)
+
+  pub run-taken : runOf n words input output .taken ≡ takenOf input (length output) .width
+  unfolding runOf finish
+  run-taken = rw (h, zero-add)
+
+  pub run-stop : runOf n words input output .stop ≡ takenOf input (length output) .stop
+  unfolding runOf finish
+  run-stop = rw h
+
+  pub run-reads : Reads input 0 (commandsOf input output) (runOf n words input output .taken)
+  run-reads = rw run-taken (takes-reads input (length output))
+
+  pub run-ended : Ended input (length output) (runOf n words input output .answered) (runOf n words input output .taken) (runOf n words input output .stop)
+  run-ended = rw (run-answered, run-taken, run-stop) (takes-ended input (length output))
+
+  -- "no run stops with 1"
+  pub run-not-one : runOf n words input output .stop ≡ 1 → ⊥
+  run-not-one = rw run-stop (takes-stop input (length output))
+
+  pub run-words : runOf n words input output .words ≡ encode (after (stateOf n words) (commandsOf input output))
+  unfolding runOf finish
+  run-words = rw h
+
+  run-output : runOf n words input output .output ≡ sets output 0 (answersBytes (stateOf n words) (commandsOf input output))
+  unfolding runOf finish
+  run-output = rw h
+
+  pub run-front : take (runOf n words input output .answered * 24) (runOf n words input output .output) ≡ answersBytes (stateOf n words) (commandsOf input output)
+  run-front =
+      let cs : List Command = commandsOf input output in
+      rw (run-answered, run-output) (take-sets output _ _ (answers-length cs (stateOf n words)) (takes-room input (length output)))
+
+  -- "Unwritten output keeps its bytes."
+  pub run-past : drop (runOf n words input output .answered * 24) (runOf n words input output .output) ≡ drop (runOf n words input output .answered * 24) output
+  run-past =
+      let cs : List Command = commandsOf input output in
+      let u : State = stateOf n words in
+      rw (run-answered, run-output) (drop-sets output (answersBytes u cs) _ (answers-length cs u) (takes-room input (length output)))
+
+-- the answers fit into the output, whatever the state
+pub run-room : (n : Counts) (words : List ℕ) (input output : Bytes) → runOf n words input output .answered * 24 ≤ length output
+unfolding runOf
+run-room n words input output = by-test (wordsSound n words)
+    (λ h. rw (run-answered n words input output h) (takes-room input (length output)))
+    (λ h. rw h (omega arith))
+
+-- ---- a run, turn by turn
+-- nothing more to take
+finish-ended : (u : State) (output : Bytes) (n at k : ℕ) →
+    finish u output n at (ended k) ≡ record { words = encode u; output = output; answered = n; taken = at; stop = k }
+unfolding finish after answersBytes
+finish-ended u output n at k = rw (add-zero n, add-zero at)
+
+-- one command more
+finish-more : (u : State) (output : Bytes) (n at w : ℕ) (c : Command) (rest : Taken) →
+    finish u output n at (more c w rest)
+    ≡ finish (step u c .state) (sets output (n * 24) (answerBytes (step u c .answer))) (n + 1) (at + w) rest
+unfolding finish after answersBytes
+finish-more u output n at w c rest =
+    let a : Bytes = answerBytes (step u c .answer) in
+    let b : Bytes = answersBytes (step u c .state) (rest .commands) in
+    let e : n * 24 + length a ≡ (n + 1) * 24 = omega (arith, answer-length (step u c .answer)) in
+    let s : sets output (n * 24) (a ++ b) ≡ sets (sets output (n * 24) a) ((n + 1) * 24) b = sets-append a b output (n * 24) ∙ rw e in
+    let m : n + suc (length (rest .commands)) ≡ n + 1 + length (rest .commands) = omega arith in
+    let t : at + (w + rest .width) ≡ at + w + rest .width = omega arith in
+    rw (s, m, t)
+
+-- what a run has yet to do that has answered `answered` commands of `at` bytes and stands at u: a turn of the loop leaves this as it is
+unfoldable pub resume : State → Bytes → Bytes → ℕ → ℕ → Outcome
+resume u input output answered at = finish u output answered at (takes (length input - at) input at (length output - answered * 24))
+
+-- number 1
+pub run-unsound : (n : Counts) (words : List ℕ) (input output : Bytes) → wordsSound n words ≡ false →
+    runOf n words input output ≡ record { words = words; output = output; answered = 0; taken = 0; stop = 1 }
+unfolding runOf
+run-unsound n words input output h = rw h
+
+pub resume-start : (n : Counts) (words : List ℕ) (input output : Bytes) → wordsSound n words ≡ true →
+    resume (stateOf n words) input output 0 0 ≡ runOf n words input output
+unfolding resume runOf
+resume-start n words input output h =
+    let a : length input - 0 ≡ length input = omega arith in
+    let b : length output - 0 ≡ length output = omega arith in
+    rw (h, a, b)
+
+module _ (u : State) (input output : Bytes) (answered at : ℕ) where
+  abbrev room : ℕ
+  room = length output - answered * 24
+
+  -- the run ends here, with a number
+  abbrev pub Over : ℕ → Type 0
+  Over k = resume u input output answered at ≡ record { words = encode u; output = output; answered = answered; taken = at; stop = k }
+
+  resumes : {t : Taken} → Takes input at room t → resume u input output answered at ≡ finish u output answered at t
+  unfolding resume
+  resumes r = ap (finish u output answered at) (takes-only input (length input - at) r (omega arith))
+
+  pub resume-end : length input ≤ at → Over 0
+  resume-end h = resumes (at-end h) ∙ finish-ended u output answered at 0
+
+  module _ (h : at < length input) where
+    -- numbers 2 and 3
+    pub resume-stop : {k : ℕ} → decodeAt input at ≡ Stop k → Over k
+    resume-stop {k} e = resumes (at-stop h e) ∙ finish-ended u output answered at k
+
+    -- number 4
+    pub resume-full : {c : Command} {width : ℕ} → decodeAt input at ≡ Known c width → length output - answered * 24 < 24 → Over 4
+    resume-full e f = resumes (no-room h e f) ∙ finish-ended u output answered at 4
+
+    -- a command answered
+    pub resume-turn : {c : Command} {width : ℕ} → decodeAt input at ≡ Known c width → answered * 24 + 24 ≤ length output →
+        resume u input output answered at
+        ≡ resume (step u c .state) input (sets output (answered * 24) (answerBytes (step u c .answer))) (answered + 1) (at + width)
+    unfolding resume
+    resume-turn {c} {width} e f =
+        let k : room - 24 ≡ length (sets output (answered * 24) (answerBytes (step u c .answer))) - (answered + 1) * 24 =
+        rw length-sets (omega arith) in
+        resumes (one h e (omega arith) (takes-all input (length input - (at + width)) (omega arith)))
+        ∙ finish-more u output answered at width c _ ∙ rw k

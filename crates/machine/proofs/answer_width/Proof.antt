@@ -1,0 +1,26 @@
+-- `machine::answer_width` meets its contract, which holds the theorems of the crate.
+use mathlib.Core.Path.{refl}
+use Rattle.machine.specs.Frame.{Framed, SoundKept}
+use Rattle.machine.proofs.State.{reset-sound, step-sound}
+use Rattle.machine.proofs.Demand3.{demand3}
+use Rattle.machine.proofs.Examples.{starred}
+use Rattle.machine.proofs.Format.{decodes}
+use Rattle.machine.proofs.Frame.{frame}
+use Rattle.machine.proofs.Printed.{printed-run}
+use Rattle.machine.proofs.Unseen.{unseen}
+use Rattle.machine.proofs.answer_width.Statement.{statement}
+use Rattle.machine.proofs.answer_width.Tie as tie
+
+kept : SoundKept
+unfolding SoundKept
+kept n = (reset-sound n, step-sound n)
+
+framed : Framed
+unfolding Framed
+framed = frame
+
+returns : tie.Need-returns
+returns c = (refl, (demand3, (kept, (framed, (unseen, (decodes, (starred, printed-run)))))))
+
+pub answer-width-spec : {M : Type 1} → statement M
+answer-width-spec = tie.close (tie.spec returns)

@@ -1,0 +1,70 @@
+-- What can take a live entry from a side of the unit, command by command.
+-- Assumes nothing.
+use Prim.Native.Nat.{ℕ, _<_}
+use mathlib.Core.Path.{_≡_}
+use mathlib.Core.Bool.{true, false}
+use mathlib.Core.List.{List, [], _∷_}
+use mathlib.Core.Logic.{_⊎_}
+use lib.Dec.{eqb}
+use lib.ListN.{getD}
+use Rattle.laws.specs.Tests.{anyOf}
+use Rattle.machine.specs.Slots.{noSlot, isLive}
+use Rattle.machine.specs.Insertion.{isEmpty}
+use Rattle.machine.specs.Registers.{partition, selected}
+use Rattle.machine.specs.State.{Counts, State, sideOf, reset, sound}
+use Rattle.machine.specs.Questions.{insertion, verdict}
+use Rattle.machine.specs.Step.{step}
+use Rattle.machine.specs.Ledger.{Entry, overlap, unlocked, isAt, inContext}
+use Rattle.machine.specs.Demand3.{entryIn}
+use Rattle.machine.specs.declared.Slot.{Slot}
+use Rattle.machine.specs.declared.Command.{Command}
+use Rattle.machine.specs.declared.Command.the-variants as command
+use Rattle.machine.specs.declared.Verdict.the-variants.{Passed}
+
+-- some slot is live and holds the entry, word and lock included; the used bit is no part of it
+abbrev pub LivesIn : List Slot → Entry → Type 0
+LivesIn s e = (i : ℕ) × (isLive (getD s i noSlot) ≡ true) × (entryIn (getD s i noSlot) ≡ e)
+
+-- the entry is live on that side of the unit
+abbrev pub Lives : State → ℕ → Entry → Type 0
+Lives u side e = LivesIn (sideOf u side) e
+
+-- the commands that may take e from a side, and when
+pub data Removes (u : State) (side : ℕ) (e : Entry) : Command → Type 0 where
+  -- "Invalidate all empties the side."
+  invalidated : Removes u side e (command.Invalidate side)
+  -- an insertion "first removes every overlapping entry, locked or not": one of its own partition
+  overlapped : {strand flags word : ℕ} → partition (u .registers) strand ≡ e .partition
+      → overlap (entryIn (insertion u strand side flags word)) e ≡ true
+      → Removes u side e (command.Insert strand side flags word)
+  -- "Demap page removes the entry of the strand's partition whose page holds the address, of the realness given; a virtual one must have the selected context."
+  demappedPage : {strand selector flags address : ℕ} → partition (u .registers) strand ≡ e .partition
+      → isAt (partition (u .registers) strand) (eqb flags 1) (selected (u .registers) strand selector) address e ≡ true
+      → Removes u side e (command.DemapPage strand side selector flags address)
+  -- "Demap context removes virtual entries of partition and selected context."
+  demappedContext : {strand selector : ℕ} → partition (u .registers) strand ≡ e .partition
+      → inContext (partition (u .registers) strand) (selected (u .registers) strand selector) e ≡ true
+      → Removes u side e (command.DemapContext strand side selector)
+  -- "Demap all removes the partition's unlocked entries, virtual and real."
+  demappedAll : {strand : ℕ} → partition (u .registers) strand ≡ e .partition → unlocked e ≡ true → Removes u side e (command.DemapAll strand side)
+  -- an insertion with no slot empty and none that overlaps takes an "unlocked slot", of any partition
+  displaced : {strand flags word : ℕ} → anyOf isEmpty (sideOf u side) ≡ false
+      → ((x : Entry) → Lives u side x → overlap (entryIn (insertion u strand side flags word)) x ≡ false)
+      → unlocked e ≡ true
+      → Removes u side e (command.Insert strand side flags word)
+
+-- no command of a list, taken in the state that those before it leave, is accepted and takes e
+abbrev pub Spares : State → ℕ → Entry → List Command → Type 0
+Spares u side e [] = Unit {0}
+Spares u side e (c ∷ cs) = (((verdict u c ≡ Passed) × Removes u side e c) → ⊥) × Spares (step u c .state) side e cs
+
+-- ---- the two laws on one command that later ones are inductions over
+-- a live entry stays, with the same word, or a command that was accepted is one of those
+unfoldable pub Framed : Type 0
+Framed =
+    (n : Counts) (u : State) (c : Command) (side : ℕ) (e : Entry) → sound n u ≡ true → side < 2 → Lives u side e
+    → Lives (step u c .state) side e ⊎ ((verdict u c ≡ Passed) × Removes u side e c)
+
+-- reset is sound, and every command, refused or not, leaves a sound state
+unfoldable pub SoundKept : Type 0
+SoundKept = (n : Counts) → (sound n (reset n) ≡ true) × ((u : State) (c : Command) → sound n u ≡ true → sound n (step u c .state) ≡ true)

@@ -1,0 +1,336 @@
+-- Document 01, "The ledger": the plain machine of demand 3. Its own text: it shares with the unit the decoded command and nothing else.
+-- Assumes nothing.
+use Prim.Native.Nat.{ℕ, zero, suc, _+_, _*_, _-_, _/_, _%_, _^_}
+use mathlib.Core.Bool.{Bool, true, false, not, _&&_, _||_, Bool·beq}
+use mathlib.Core.Option.{Option, none, some}
+use mathlib.Core.List.{List, [], _∷_, _++_}
+use lib.Dec.{eqb, leb, ltb}
+use lib.ListN.{length, getD, take, drop}
+use Rattle.laws.specs.Tests.{pick, tick, count, without, find}
+use Rattle.machine.specs.declared.Command.{Command}
+use Rattle.machine.specs.declared.Command.the-variants as command
+
+-- "An entry is partition, realness, context (0 when real), the page address, the lock, the word."
+pub record Entry : Type 0 where
+  pub partition : ℕ
+  pub real : Bool
+  pub context : ℕ
+  pub page : ℕ
+  pub locked : Bool
+  pub word : ℕ
+
+-- "holds the registers above and, for each side, a list of entries, oldest first"
+pub record Ledger : Type 0 where
+  pub registers : ℕ → ℕ → ℕ
+  pub entries : ℕ → List Entry
+
+-- "It starts with the reset values and empty lists"
+abbrev pub start : Ledger
+start = record { registers = λ strand number. pick (eqb number 3) 2 0; entries = λ side. [] }
+
+abbrev pub writes : Ledger → ℕ → ℕ → ℕ → Ledger
+writes l strand number value = record {
+  registers = λ s r. pick (eqb s strand && eqb r number) value (l .registers s r);
+  entries = l .entries;
+}
+
+abbrev pub withEntries : Ledger → ℕ → List Entry → Ledger
+withEntries l side m = record { registers = l .registers; entries = λ k. pick (eqb k side) m (l .entries k) }
+
+-- ---- pages and words
+-- bytes of a page by size code
+abbrev pub codeBytes : ℕ → ℕ
+codeBytes code = pick (eqb code 0) 0x2000 (pick (eqb code 1) 0x1_0000 (pick (eqb code 3) 0x40_0000 0x1000_0000))
+
+abbrev pub pageBytes : ℕ → ℕ
+pageBytes word = codeBytes (word % 16)
+
+abbrev pub codeListed : ℕ → Bool
+codeListed code = eqb code 0 || (eqb code 1 || (eqb code 3 || eqb code 5))
+
+-- bit k of a word
+abbrev pub bit : ℕ → ℕ → ℕ
+bit k word = word / 2 ^ k % 2
+
+-- the address of a virtual or real page, in range: 64 bits, and not in the hole
+abbrev pub addressGood : ℕ → Bool
+addressGood a = ltb a (2 ^ 64) && not (leb 0x8000_0000_0000 a && ltb a 0xFFFF_8000_0000_0000)
+
+-- "Word with v 1, a listed size, bits 55:40 zero"
+abbrev pub wordGood : ℕ → Bool
+wordGood word = (leb (2 ^ 63) word && ltb word (2 ^ 64)) && (codeListed (word % 16) && eqb (word / 2 ^ 40 % 2 ^ 16) 0)
+
+-- the page holds the address
+abbrev pub reaches : Entry → ℕ → Bool
+reaches e a = leb (e .page) a && ltb a (e .page + pageBytes (e .word))
+
+-- "Two entries of a side overlap when partition, realness and context agree and one page holds the other's start."
+unfoldable pub overlap : Entry → Entry → Bool
+overlap e x =
+    (eqb (e .partition) (x .partition) && (Bool·beq (e .real) (x .real) && eqb (e .context) (x .context)))
+    && (reaches e (x .page) || reaches x (e .page))
+
+abbrev pub unlocked : Entry → Bool
+unlocked e = not (e .locked)
+
+-- ---- registers
+abbrev pub registerKnown : ℕ → Bool
+registerKnown r = leb r 5 || (leb 8 r && leb r 25)
+
+abbrev pub registerWritable : ℕ → Bool
+registerWritable r = leb r 5 || (leb 8 r && leb r 21)
+
+abbrev pub valueGood : ℕ → ℕ → Bool
+valueGood r v =
+    pick (eqb r 0) (leb v 7)
+    (pick (eqb r 1 || eqb r 2) (leb v 8191)
+    (pick (eqb r 3) (leb v 2)
+    (pick (eqb r 4) (leb v 3)
+    (pick (eqb r 5) (leb v 1)
+    (pick (leb 8 r && leb r 15) (eqb (v / 16 % 512) 0)
+    (pick (leb 16 r && leb r 19) (eqb v (v % 8 + v / 256 % 8 * 256) && (codeListed (v % 8) && codeListed (v / 256 % 8)))
+    true))))))
+
+-- "Selector 0 primary, 1 secondary, 2 nucleus (context 0)"
+abbrev pub contextPicked : Ledger → ℕ → ℕ → ℕ
+contextPicked l strand selector = pick (eqb selector 0) (l .registers strand 1) (pick (eqb selector 1) (l .registers strand 2) 0)
+
+abbrev pub tagOf : Ledger → ℕ → ℕ → ℕ
+tagOf l strand side = l .registers strand (20 + side)
+
+-- ---- answers
+-- the low k bytes of a value, big-endian
+unfoldable pub bigEndian : ℕ → ℕ → List ℕ
+bigEndian zero v = []
+bigEndian (suc k) v = bigEndian k (v / 256) ++ (v % 256 ∷ [])
+
+-- "kind, a, b, c, four zeros, two big-endian values of 8"
+unfoldable pub line : ℕ → ℕ → ℕ → ℕ → ℕ → ℕ → List ℕ
+line kind a b c v w = kind ∷ a ∷ b ∷ c ∷ 0 ∷ 0 ∷ 0 ∷ 0 ∷ (bigEndian 8 v ++ bigEndian 8 w)
+
+pub record Written : Type 0 where
+  pub ledger : Ledger
+  pub bytes : List ℕ
+
+abbrev pub answers : Ledger → List ℕ → Written
+answers l b = record { ledger = l; bytes = b }
+
+-- ---- the displaced entry, as the unit's answer names it
+pub record Name : Type 0 where
+  pub partition : ℕ
+  pub real : ℕ
+  pub place : ℕ
+  pub word : ℕ
+
+-- a value of bytes, big-endian
+unfoldable pub valueFrom : ℕ → List ℕ → ℕ
+valueFrom high [] = high
+valueFrom high (b ∷ r) = valueFrom (high * 256 + b) r
+
+-- "4 displaced: b partition, c realness, first value page address plus context, second the word"
+unfoldable pub nameIn : List ℕ → Name
+nameIn answer = record {
+  partition = getD answer 2 0;
+  real = getD answer 3 0;
+  place = valueFrom 0 (take 8 (drop 8 answer));
+  word = valueFrom 0 (drop 16 answer);
+}
+
+unfoldable pub isNamed : Name → Entry → Bool
+isNamed d e =
+    eqb (d .partition) (e .partition)
+    && (eqb (d .real) (tick (e .real)) && (eqb (d .place) (e .page + e .context) && eqb (d .word) (e .word)))
+
+-- ---- "It puts questions 5 to 13 below to its own registers and lists"
+-- "Insertion takes the strand's partition and tag access, its address rounded down to the word's page."
+unfoldable pub newEntry : Ledger → ℕ → ℕ → ℕ → ℕ → Entry
+newEntry l strand side flags word =
+    let tag : ℕ = tagOf l strand side in
+    let address : ℕ = tag - tag % 8192 in
+    record {
+      partition = l .registers strand 0;
+      real = eqb (flags % 2) 1;
+      context = pick (eqb (flags % 2) 1) 0 (tag % 8192);
+      page = address - address % pageBytes word;
+      locked = leb 2 flags;
+      word = word;
+    }
+
+-- the numbers that a list of questions may answer, each with whether it is answered well; 0 where all are
+unfoldable pub firstNo : List (ℕ × Bool) → ℕ
+firstNo [] = 0
+firstNo (q ∷ qs) = pick (q .1) (firstNo qs) (q .0)
+
+abbrev pub selectorGood : ℕ → ℕ → Bool
+selectorGood side selector = leb selector 2 && not (eqb selector 1 && eqb side 0)
+
+-- 5 to 12
+unfoldable pub questions : Ledger → Command → List (ℕ × Bool)
+questions l (command.Write strand number value) = (5, leb strand 3) ∷ (9, registerWritable number) ∷ (10, valueGood number value) ∷ []
+questions l (command.Insert strand side flags word) =
+    (5, leb strand 3) ∷ (6, leb side 1) ∷ (8, leb flags 3)
+    ∷ (11, addressGood (tagOf l strand side - tagOf l strand side % 8192)) ∷ (12, wordGood word) ∷ []
+questions l (command.DemapPage strand side selector flags address) =
+    (5, leb strand 3) ∷ (6, leb side 1) ∷ (7, selectorGood side selector) ∷ (8, leb flags 1) ∷ (11, addressGood address) ∷ []
+questions l (command.DemapContext strand side selector) = (5, leb strand 3) ∷ (6, leb side 1) ∷ (7, selectorGood side selector) ∷ []
+questions l (command.DemapAll strand side) = (5, leb strand 3) ∷ (6, leb side 1) ∷ []
+questions l (command.Invalidate side) = (6, leb side 1) ∷ []
+questions l (command.Access strand kind selector size address) =
+    (5, leb strand 3) ∷ (6, leb kind 4)
+    ∷ (7, selectorGood (pick (eqb kind 0) 0 1) selector && not (eqb selector 2 && (eqb (l .registers strand 3) 0 && eqb kind 0)))
+    ∷ (8, leb size 3 && (not (eqb kind 0) || eqb size 2)) ∷ []
+questions l (command.Read strand number) = (5, leb strand 3) ∷ (9, registerKnown number) ∷ []
+questions l (command.Pointers strand side) = (5, leb strand 3) ∷ (6, leb side 1) ∷ []
+
+-- 13: "not 64 live, locked and none overlapped"
+abbrev pub lacksSlot : ℕ → Entry → List Entry → Bool
+lacksSlot n e m = eqb (length m) n && (eqb (count unlocked m) 0 && eqb (count (overlap e) m) 0)
+
+-- ---- insertion, demaps and invalidation
+-- "it strikes the one named, which must be live and unlocked"; with no such entry there is no answer
+abbrev pub displaces : Ledger → ℕ → Entry → Name → Option Entry → Written
+displaces l side e d none = answers l []
+displaces l side e d (some x) =
+    answers (withEntries l side (without (isNamed d) (l .entries side) ++ (e ∷ [])))
+    (line 4 0 (x .partition) (tick (x .real)) (x .page + x .context) (x .word))
+
+-- "Insertion strikes those it overlaps; where 64 were live, none overlapped and one at least was unlocked, it strikes the one named. Then it appends itself."
+unfoldable pub inserts : ℕ → Ledger → ℕ → Entry → Name → Written
+inserts n l side e d =
+    let m : List Entry = l .entries side in
+    pick (lacksSlot n e m) (answers l (line 5 13 0 0 0 0))
+    (pick (eqb (length m) n && eqb (count (overlap e) m) 0)
+    (displaces l side e d (find (λ x. isNamed d x && unlocked x) m))
+    (answers (withEntries l side (without (overlap e) m ++ (e ∷ []))) (line 0 0 0 0 0 0)))
+
+-- "for a demap the count struck"
+abbrev pub strikes : Ledger → ℕ → (Entry → Bool) → Written
+strikes l side p = answers (withEntries l side (without p (l .entries side))) (line 0 0 0 0 (count p (l .entries side)) 0)
+
+-- of a partition and a realness and, if virtual, a context, and its page holds the address
+unfoldable pub isAt : ℕ → Bool → ℕ → ℕ → Entry → Bool
+isAt partition real context address e =
+    eqb (e .partition) partition && (Bool·beq (e .real) real && ((real || eqb (e .context) context) && reaches e address))
+
+unfoldable pub inContext : ℕ → ℕ → Entry → Bool
+inContext partition context e = eqb (e .partition) partition && (not (e .real) && eqb (e .context) context)
+
+unfoldable pub inPartition : ℕ → Entry → Bool
+inPartition partition e = eqb (e .partition) partition && unlocked e
+
+-- ---- access
+-- what an access asks for, and the address used
+pub record Asked : Type 0 where
+  pub strand : ℕ
+  pub kind : ℕ
+  pub selector : ℕ
+  pub size : ℕ
+  pub used : ℕ
+
+-- "With the mask 1 and mode 0 or 1 the address is first taken modulo 2^32."
+abbrev pub usedAddress : Ledger → ℕ → ℕ → ℕ
+usedAddress l strand address = pick (eqb (l .registers strand 5) 1 && not (eqb (l .registers strand 3) 2)) (address % 0x1_0000_0000) address
+
+abbrev pub askedSide : Asked → ℕ
+askedSide a = pick (eqb (a .kind) 0) 0 1
+
+abbrev pub translationOn : Ledger → Asked → Bool
+translationOn l a = eqb (l .registers (a .strand) 4 / 2 ^ askedSide a % 2) 1
+
+-- "Every trap writes the side's registers 22 and 24": number × 256 + type
+abbrev pub faults : Ledger → Asked → ℕ → ℕ → Ledger
+faults l a number type = writes (writes l (a .strand) (22 + askedSide a) (a .used)) (a .strand) (24 + askedSide a) (number * 256 + type)
+
+-- a trap that leaves tag access
+abbrev pub plainTrap : Ledger → Asked → ℕ → Written
+plainTrap l a number = answers (faults l a number 0) (line 2 number 0 0 (a .used) (tagOf l (a .strand) (askedSide a)))
+
+-- a trap that writes tag access: "the address used and the selected context, or context 0 when translation is off for the side"
+unfoldable pub taggedTrap : Ledger → Asked → ℕ → ℕ → Written
+taggedTrap l a number type =
+    let tag : ℕ = a .used - a .used % 8192 + pick (translationOn l a) (contextPicked l (a .strand) (a .selector)) 0 in
+    answers (writes (faults l a number type) (a .strand) (20 + askedSide a) tag) (line 2 number type 0 (a .used) tag)
+
+-- the steps in order: the first whose condition holds
+unfoldable pub firstFit : List (Bool × Written) → Written → Written
+firstFit [] last = last
+firstFit (s ∷ ss) last = pick (s .0) (s .1) (firstFit ss last)
+
+-- steps 1 to 4: whether the access ends before the lookup
+unfoldable pub earlySteps : Ledger → Asked → List (Bool × Written)
+earlySteps l a =
+    let mode : ℕ = l .registers (a .strand) 3 in
+    (not (eqb (a .used % 2 ^ a .size) 0), plainTrap l a 0x34)
+    ∷ (eqb mode 0 && (eqb (askedSide a) 1 && eqb (a .selector) 2), plainTrap l a 0x37)
+    ∷ (eqb mode 2, answers l (line 1 (pick (eqb (bit 39 (a .used)) 0) 1 2) 0 0 (a .used % 0x100_0000_0000) 0))
+    ∷ (not (addressGood (a .used)), taggedTrap l a (pick (eqb (a .kind) 0) 0x08 0x30) 0x20)
+    ∷ []
+
+-- step 5: the live entries that the lookup may find
+abbrev pub foundBy : Ledger → Asked → Entry → Bool
+foundBy l a = isAt (l .registers (a .strand) 0) (not (translationOn l a)) (contextPicked l (a .strand) (a .selector)) (a .used)
+
+-- "None: 0x64 fetch, 0x68 data; real 0x3E, 0x3F."
+unfoldable pub misses : Ledger → Asked → Written
+misses l a =
+    taggedTrap l a
+    (pick (eqb (a .kind) 0) (pick (translationOn l a) 0x64 0x3E) (pick (translationOn l a) 0x68 0x3F))
+    0
+
+-- steps 6 to 8 on the entry found
+unfoldable pub hits : Ledger → Asked → Entry → Written
+hits l a e =
+    let word : ℕ = e .word in
+    let address : ℕ = word / 2 ^ 13 % 2 ^ 43 * 2 ^ 13 in
+    let type : ℕ =
+    pick (eqb (l .registers (a .strand) 3) 0) (bit 8 word) 0
+    + pick (eqb (a .kind) 4) (2 * bit 11 word) 0
+    + pick (eqb (a .kind) 3) (4 * (1 - bit 10 word)) 0
+    + pick (eqb (a .kind) 4) 0 (0x10 * bit 62 word) in
+    firstFit
+    ((not (eqb type 0), taggedTrap l a (pick (eqb (a .kind) 0) 0x08 0x30) type)
+    ∷ (eqb (bit 6 word) 0 && (eqb (a .kind) 2 || eqb (a .kind) 3), taggedTrap l a 0x6C 0)
+    ∷ [])
+    (answers l (line 1 (bit 10 word + 2 * bit 11 word + 4 * bit 12 word) 0 0 (address - address % pageBytes word + a .used % pageBytes word) 0))
+
+abbrev pub lookedUp : Ledger → Asked → Option Entry → Written
+lookedUp l a none = misses l a
+lookedUp l a (some e) = hits l a e
+
+-- "An access takes the steps above and finds the live entry"
+unfoldable pub accesses : Ledger → Asked → Written
+accesses l a = firstFit (earlySteps l a) (lookedUp l a (find (foundBy l a) (l .entries (askedSide a))))
+
+-- ---- pointers
+-- "base with its low 13 + N bits cleared, plus 16 × ((address div page size) mod 2^(9+N))"
+unfoldable pub pointerOf : ℕ → ℕ → ℕ → ℕ
+pointerOf base code address = base - base % 2 ^ (13 + base % 16) + address / codeBytes code % 2 ^ (9 + base % 16) * 16
+
+-- "ps0, then ps1"
+unfoldable pub pointers : Ledger → ℕ → ℕ → Written
+pointers l strand side =
+    let tag : ℕ = tagOf l strand side in
+    let other : ℕ = pick (eqb (tag % 8192) 0) 0 1 in
+    let configuration : ℕ = l .registers strand (16 + 2 * side + other) in
+    let base : ℕ → ℕ = λ k. l .registers strand (8 + 4 * side + 2 * other + k) in
+    answers l (line 3 0 0 0 (pointerOf (base 0) (configuration % 8) (tag - tag % 8192)) (pointerOf (base 1) (configuration / 256 % 8) (tag - tag % 8192)))
+
+-- ---- one command: what the ledger does that no question refused. n is the slot count of each side; d the entry that the unit's answer names
+unfoldable pub does : (ℕ → ℕ) → Ledger → Command → Name → Written
+does n l (command.Write strand number value) d = answers (writes l strand number value) (line 0 0 0 0 0 0)
+does n l (command.Insert strand side flags word) d = inserts (n side) l side (newEntry l strand side flags word) d
+does n l (command.DemapPage strand side selector flags address) d =
+    strikes l side (isAt (l .registers strand 0) (eqb flags 1) (contextPicked l strand selector) address)
+does n l (command.DemapContext strand side selector) d = strikes l side (inContext (l .registers strand 0) (contextPicked l strand selector))
+does n l (command.DemapAll strand side) d = strikes l side (inPartition (l .registers strand 0))
+does n l (command.Invalidate side) d = answers (withEntries l side []) (line 0 0 0 0 0 0)
+does n l (command.Access strand kind selector size address) d =
+    accesses l (record { strand = strand; kind = kind; selector = selector; size = size; used = usedAddress l strand (address .0) })
+does n l (command.Read strand number) d = answers l (line 3 0 0 0 (l .registers strand number) 0)
+does n l (command.Pointers strand side) d = pointers l strand side
+
+-- "a refused command changes nothing"
+unfoldable pub enters : (ℕ → ℕ) → Ledger → Command → Name → Written
+enters n l c d =
+    let number : ℕ = firstNo (questions l c) in
+    pick (eqb number 0) (does n l c d) (answers l (line 5 number 0 0 0 0))

@@ -1,0 +1,17 @@
+pub mod Pages
+pub mod Words
+pub mod Slots
+pub mod Insertion
+pub mod Sound
+pub mod Registers
+pub mod State
+pub mod Questions
+pub mod Access
+pub mod Step
+pub mod Stream
+pub mod Ledger
+pub mod Demand3
+pub mod Examples
+pub mod Frame
+pub mod Unseen
+pub mod Format

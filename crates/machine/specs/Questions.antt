@@ -1,0 +1,120 @@
+-- Document 01, "Questions before a command acts": 5 to 13, as an ordered list for each command.
+-- Assumes nothing.
+use Prim.Native.Nat.{ℕ, _%_, _/_, _^_}
+use mathlib.Core.Bool.{Bool, true, false, not, cond, _&&_, _||_}
+use mathlib.Core.List.{List, [], _∷_}
+use lib.Dec.{eqb, ltb}
+use Rattle.laws.specs.Tests.{pick}
+use Rattle.machine.specs.Pages.{inRange}
+use Rattle.machine.specs.Words.{wordInsertable}
+use Rattle.machine.specs.Registers.{register, partition, mode, tagAccess, tagAddress, tagContext, known, writable, allowed}
+use Rattle.machine.specs.Insertion.{entryOf, candidate, hasSlot}
+use Rattle.machine.specs.State.{State, sideOf}
+use Rattle.machine.specs.declared.Slot.{Slot}
+use Rattle.machine.specs.declared.Key.{Key}
+use Rattle.machine.specs.declared.Key.the-variants.{Virtual, Real}
+use Rattle.machine.specs.declared.Command.{Command}
+use Rattle.machine.specs.declared.Command.the-variants as command
+use Rattle.machine.specs.declared.Refusal.{Refusal}
+use Rattle.machine.specs.declared.Refusal.the-variants as refusal
+use Rattle.machine.specs.declared.Verdict.{Verdict}
+use Rattle.machine.specs.declared.Verdict.the-variants.{Passed, Refused}
+
+-- the document's number of a refusal
+abbrev pub refusalNumber : Refusal → ℕ
+refusalNumber refusal.Strand = 5
+refusalNumber refusal.Side = 6
+refusalNumber refusal.Selector = 7
+refusalNumber refusal.Operand = 8
+refusalNumber refusal.Register = 9
+refusalNumber refusal.Value = 10
+refusalNumber refusal.Address = 11
+refusalNumber refusal.Word = 12
+refusalNumber refusal.NoSlot = 13
+
+-- ---- what the questions speak of
+-- the side of an access: a fetch is kind 0
+abbrev pub kindSide : ℕ → ℕ
+kindSide kind = pick (eqb kind 0) 0 1
+
+-- flags of an insertion: 1 real, 2 locked; of a demap page: 1 real
+abbrev pub flagReal : ℕ → Bool
+flagReal flags = eqb (flags % 2) 1
+
+abbrev pub flagLocked : ℕ → Bool
+flagLocked flags = eqb (flags / 2 % 2) 1
+
+abbrev pub keyOf : Bool → ℕ → ℕ → ℕ → Key
+keyOf true partition context address = Real partition (record { 0 = address })
+keyOf false partition context address = Virtual partition context (record { 0 = address })
+
+-- "Insertion takes the strand's partition and tag access"
+abbrev pub insertion : State → ℕ → ℕ → ℕ → ℕ → Slot
+insertion u strand side flags word =
+    let tag : ℕ = tagAccess (u .registers) strand side in
+    entryOf (keyOf (flagReal flags) (partition (u .registers) strand) (tagContext tag) (tagAddress tag)) (flagLocked flags) word
+
+-- "Selector 0 to 2, not 1 on side 0"
+abbrev pub selectorFits : ℕ → ℕ → Bool
+selectorFits side selector = ltb selector 3 && not (eqb side 0 && eqb selector 1)
+
+-- "not 2 on a mode 0 fetch"
+abbrev pub nucleusFetch : List ℕ → ℕ → ℕ → ℕ → Bool
+nucleusFetch file strand kind selector = eqb kind 0 && (eqb selector 2 && eqb (mode file strand) 0)
+
+-- "size 0 to 3, a fetch 2"
+abbrev pub sizeFits : ℕ → ℕ → Bool
+sizeFits kind size = ltb size 4 && (not (eqb kind 0) || eqb size 2)
+
+-- ---- the questions
+pub record Question : Type 0 where
+  pub refusal : Refusal
+  pub fine : Bool
+
+abbrev pub question : Refusal → Bool → Question
+question r b = record { refusal = r; fine = b }
+
+unfoldable pub asked : State → Command → List Question
+asked u (command.Write strand number value) =
+    question refusal.Strand (ltb strand 4)
+    ∷ question refusal.Register (writable number)
+    ∷ question refusal.Value (allowed number value)
+    ∷ []
+asked u (command.Insert strand side flags word) =
+    question refusal.Strand (ltb strand 4)
+    ∷ question refusal.Side (ltb side 2)
+    ∷ question refusal.Operand (ltb flags 4)
+    ∷ question refusal.Address (inRange (tagAddress (tagAccess (u .registers) strand side)))
+    ∷ question refusal.Word (wordInsertable word)
+    ∷ question refusal.NoSlot (hasSlot candidate (insertion u strand side flags word) (sideOf u side))
+    ∷ []
+asked u (command.DemapPage strand side selector flags address) =
+    question refusal.Strand (ltb strand 4)
+    ∷ question refusal.Side (ltb side 2)
+    ∷ question refusal.Selector (selectorFits side selector)
+    ∷ question refusal.Operand (ltb flags 2)
+    ∷ question refusal.Address (inRange address)
+    ∷ []
+asked u (command.DemapContext strand side selector) =
+    question refusal.Strand (ltb strand 4)
+    ∷ question refusal.Side (ltb side 2)
+    ∷ question refusal.Selector (selectorFits side selector)
+    ∷ []
+asked u (command.DemapAll strand side) = question refusal.Strand (ltb strand 4) ∷ question refusal.Side (ltb side 2) ∷ []
+asked u (command.Invalidate side) = question refusal.Side (ltb side 2) ∷ []
+asked u (command.Access strand kind selector size address) =
+    question refusal.Strand (ltb strand 4)
+    ∷ question refusal.Side (ltb kind 5)
+    ∷ question refusal.Selector (selectorFits (kindSide kind) selector && not (nucleusFetch (u .registers) strand kind selector))
+    ∷ question refusal.Operand (sizeFits kind size)
+    ∷ []
+asked u (command.Read strand number) = question refusal.Strand (ltb strand 4) ∷ question refusal.Register (known number) ∷ []
+asked u (command.Pointers strand side) = question refusal.Strand (ltb strand 4) ∷ question refusal.Side (ltb side 2) ∷ []
+
+-- the first "no" refuses
+unfoldable pub ask : List Question → Verdict
+ask [] = Passed
+ask (q ∷ qs) = cond (q .fine) (ask qs) (Refused (q .refusal))
+
+unfoldable pub verdict : State → Command → Verdict
+verdict u c = ask (asked u c)

@@ -1,0 +1,117 @@
+-- The slots of one side of a TLB ("buffer" in document 01), any number of them, and what a search of them finds.
+-- Assumes nothing.
+use Prim.Native.Nat.{ℕ, _+_, _*_, _/_, _%_, _^_}
+use mathlib.Core.List.{List, [], _∷_, map}
+use mathlib.Core.Bool.{Bool, true, false, not, _&&_}
+use lib.Dec.{eqb}
+use lib.ListN.{getD, set}
+use lib.Seq.{sets}
+use Rattle.laws.specs.Tests.{pick, tick, first}
+use Rattle.laws.specs.declared.Found.{Found}
+use Rattle.machine.specs.Pages.{pageStart, pageOffset}
+use Rattle.machine.specs.declared.Slot.{Slot}
+use Rattle.machine.specs.declared.Key.{Key}
+use Rattle.machine.specs.declared.Key.the-variants.{Virtual, Real}
+use Rattle.machine.specs.declared.PageMatch.{PageMatch}
+use Rattle.machine.specs.declared.PageMatch.the-variants.{Within, Outside}
+
+-- ---- slots and words: each determines the other
+-- four words a slot; fewer than four at the end are no slot
+unfoldable pub slotsOf : List ℕ → List Slot
+slotsOf [] = []
+slotsOf (a ∷ []) = []
+slotsOf (a ∷ b ∷ []) = []
+slotsOf (a ∷ b ∷ c ∷ []) = []
+slotsOf (a ∷ b ∷ c ∷ d ∷ r) = record { owner = a; page = b; word = c; flags = d } ∷ slotsOf r
+
+unfoldable pub wordsOf : List Slot → List ℕ
+wordsOf [] = []
+wordsOf (x ∷ r) = x .owner ∷ x .page ∷ x .word ∷ x .flags ∷ wordsOf r
+
+-- slot i of the words holds x; the other words are as they were
+abbrev pub withSlot : List ℕ → ℕ → Slot → List ℕ
+withSlot words i x = sets words (i * 4) (x .owner ∷ x .page ∷ x .word ∷ x .flags ∷ [])
+
+-- "an emptied slot holds zeros"
+abbrev pub noSlot : Slot
+noSlot = record { owner = 0; page = 0; word = 0; flags = 0 }
+
+abbrev pub slotOf : List ℕ → ℕ → Slot
+slotOf words i = getD (slotsOf words) i noSlot
+
+-- slot i of the words is replaced by f of it
+abbrev pub onSlot : (Slot → Slot) → ℕ → List ℕ → List ℕ
+onSlot f i words = withSlot words i (f (slotOf words i))
+
+-- ---- what stands in a slot
+-- "A slot whose word has v 1 is live, the others are empty"
+abbrev pub isLive : Slot → Bool
+isLive x = eqb (x .word / 2 ^ 63) 1
+
+abbrev pub sizeCode : Slot → ℕ
+sizeCode x = x .word % 2 ^ 4
+
+abbrev pub partitionOf : Slot → ℕ
+partitionOf x = x .owner / 2 ^ 14
+
+-- the real bit ("realness")
+abbrev pub isReal : Slot → Bool
+isReal x = eqb (x .owner / 2 ^ 13 % 2) 1
+
+abbrev pub contextOf : Slot → ℕ
+contextOf x = x .owner % 2 ^ 13
+
+abbrev pub isLocked : Slot → Bool
+isLocked x = eqb (x .flags % 2) 1
+
+-- the used bit ("mark")
+abbrev pub isUsed : Slot → Bool
+isUsed x = eqb (x .flags / 2 % 2) 1
+
+-- ---- lookup
+-- partition, real bit and context in their places
+abbrev pub ownerWord : ℕ → Bool → ℕ → ℕ
+ownerWord partition real context = partition % 8 * 2 ^ 14 + tick real * 2 ^ 13 + context % 2 ^ 13
+
+-- "context 0 when real"
+abbrev pub keyOwner : Key → ℕ
+keyOwner (Virtual partition context address) = ownerWord partition false context
+keyOwner (Real partition address) = ownerWord partition true 0
+
+abbrev pub keyAddress : Key → ℕ
+keyAddress (Virtual partition context address) = address .0
+keyAddress (Real partition address) = address .0
+
+-- partition, real bit and context agree
+abbrev pub agrees : Key → Slot → Bool
+agrees key x = eqb (x .owner) (keyOwner key)
+
+-- the page holds the address: rounded down to the page's size, it is the page's start
+abbrev pub holds : Slot → ℕ → Bool
+holds x address = eqb (pageStart (sizeCode x) address) (x .page)
+
+-- an address against the page
+unfoldable pub pageMatch : Slot → ℕ → PageMatch
+pageMatch x address = pick (holds x address) (Within (sizeCode x) (pageOffset (sizeCode x) address)) Outside
+
+-- a live entry of the key's owner whose page holds the key's address
+unfoldable pub answersTo : Key → Slot → Bool
+answersTo key x = isLive x && (agrees key x && holds x (keyAddress key))
+
+abbrev pub search : Key → List Slot → Found
+search key s = first (answersTo key) s
+
+-- ---- used bits
+abbrev pub withUsed : Slot → Slot
+withUsed x = record { owner = x .owner; page = x .page; word = x .word; flags = x .flags % 2 + 2 }
+
+abbrev pub withoutUsed : Slot → Slot
+withoutUsed x = record { owner = x .owner; page = x .page; word = x .word; flags = x .flags % 2 }
+
+-- "The found entry is marked"
+abbrev pub setUsed : ℕ → List Slot → List Slot
+setUsed i s = set s i (withUsed (getD s i noSlot))
+
+-- "it clears all marks of the side"
+abbrev pub clearUsed : List Slot → List Slot
+clearUsed s = map withoutUsed s

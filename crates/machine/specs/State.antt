@@ -1,0 +1,75 @@
+-- The state: a register file and the slots of two sides; as the words that a caller lends; reset; and soundness (number 1).
+-- Over any number of slots on either side.
+-- Assumes nothing.
+use Prim.Native.Nat.{ℕ, _+_, _*_}
+use mathlib.Core.Bool.{Bool, cond, _&&_}
+use mathlib.Core.List.{List, _++_}
+use lib.Dec.{eqb}
+use lib.ListN.{length, take, drop, replicate}
+use Rattle.laws.specs.Tests.{pick}
+use Rattle.machine.specs.Registers.{registerWords, registersSound, resetRegisters}
+use Rattle.machine.specs.Slots.{slotsOf, wordsOf, noSlot}
+use Rattle.machine.specs.Sound.{sideSound}
+use Rattle.machine.specs.declared.Slot.{Slot}
+
+-- how many slots the instruction TLB (side 0) and the data TLB (side 1) have
+pub record Counts : Type 0 where
+  pub itlb : ℕ
+  pub dtlb : ℕ
+
+-- "an instruction buffer (side 0) and a data buffer (side 1), 64 slots each"
+abbrev pub counts : Counts
+counts = record { itlb = 64; dtlb = 64 }
+
+abbrev pub slotCount : Counts → ℕ → ℕ
+slotCount n side = pick (eqb side 0) (n .itlb) (n .dtlb)
+
+pub record State : Type 0 where
+  pub registers : List ℕ
+  pub itlb : List Slot
+  pub dtlb : List Slot
+
+abbrev pub sideOf : State → ℕ → List Slot
+sideOf u side = pick (eqb side 0) (u .itlb) (u .dtlb)
+
+abbrev pub withSide : State → ℕ → List Slot → State
+withSide u side s = record { registers = u .registers; itlb = pick (eqb side 0) s (u .itlb); dtlb = pick (eqb side 0) (u .dtlb) s }
+
+abbrev pub withRegisters : State → List ℕ → State
+withRegisters u file = record { registers = file; itlb = u .itlb; dtlb = u .dtlb }
+
+-- ---- the words of a state: registers, side 0, side 1
+abbrev pub stateWords : Counts → ℕ
+stateWords n = registerWords + n .itlb * 4 + n .dtlb * 4
+
+unfoldable pub stateOf : Counts → List ℕ → State
+stateOf n words = record {
+  registers = take registerWords words;
+  itlb = slotsOf (take (n .itlb * 4) (drop registerWords words));
+  dtlb = slotsOf (drop (registerWords + n .itlb * 4) words);
+}
+
+unfoldable pub encode : State → List ℕ
+encode u = u .registers ++ (wordsOf (u .itlb) ++ wordsOf (u .dtlb))
+
+-- "Reset: all zero, mode 2, buffers empty."
+unfoldable pub reset : Counts → State
+reset n = record { registers = resetRegisters; itlb = replicate (n .itlb) noSlot; dtlb = replicate (n .dtlb) noSlot }
+
+-- the call that resets lent words: a state of another length stays as it is and gets 1
+unfoldable pub resetOf : Counts → List ℕ → List ℕ
+resetOf n words = cond (eqb (length words) (stateWords n)) (encode (reset n)) words
+
+unfoldable pub resetNumber : Counts → List ℕ → ℕ
+resetNumber n words = cond (eqb (length words) (stateWords n)) 0 1
+
+-- "Sound means": registers, and on each side every slot by itself and none that overlap
+unfoldable pub sideFits : ℕ → List Slot → Bool
+sideFits n s = eqb (length s) n && sideSound s
+
+unfoldable pub sound : Counts → State → Bool
+sound n u = registersSound (u .registers) && (sideFits (n .itlb) (u .itlb) && sideFits (n .dtlb) (u .dtlb))
+
+-- number 1, of any words: a state of another length is not sound
+unfoldable pub wordsSound : Counts → List ℕ → Bool
+wordsSound n words = eqb (length words) (stateWords n) && sound n (stateOf n words)

@@ -1,0 +1,83 @@
+-- One command of the unit: its questions, what it does to the state, and what it answers.
+-- Assumes nothing.
+use Prim.Native.Nat.{ℕ, _+_, _*_, _/_, _%_, _^_}
+use mathlib.Core.List.{List}
+use lib.Dec.{eqb}
+use Rattle.laws.specs.Tests.{pick, count}
+use Rattle.machine.specs.Pages.{pageSize}
+use Rattle.machine.specs.Words.{bits}
+use Rattle.machine.specs.Slots.{partitionOf, isReal, contextOf}
+use Rattle.machine.specs.Registers.{register, withRegister, partition, selected, tagAccess, tagAddress, tagContext, baseNumber, configurationNumber}
+use Rattle.machine.specs.Insertion.{removed, removes, candidate, inserted, placed}
+use Rattle.machine.specs.State.{State, sideOf, withSide, withRegisters}
+use Rattle.machine.specs.Questions.{flagReal, keyOf, insertion, verdict}
+use Rattle.machine.specs.Access.{Stepped, stepped, addressUsed, accessTo}
+use Rattle.machine.specs.declared.Slot.{Slot}
+use Rattle.machine.specs.declared.Removal.{Removal}
+use Rattle.machine.specs.declared.Removal.the-variants as removal
+use Rattle.machine.specs.declared.Placed.{Placed}
+use Rattle.machine.specs.declared.Placed.the-variants as placement
+use Rattle.machine.specs.declared.Displaced.{Displaced}
+use Rattle.machine.specs.declared.Command.{Command}
+use Rattle.machine.specs.declared.Command.the-variants as command
+use Rattle.machine.specs.declared.Refusal.{Refusal}
+use Rattle.machine.specs.declared.Refusal.the-variants as refusal
+use Rattle.machine.specs.declared.Verdict.{Verdict}
+use Rattle.machine.specs.declared.Verdict.the-variants.{Passed, Refused}
+use Rattle.machine.specs.declared.Answer.{Answer}
+use Rattle.machine.specs.declared.Answer.the-variants as answer
+
+-- "4 displaced: b partition, c realness, first value page address plus context, second the word"
+abbrev pub displacedOf : Slot → Displaced
+displacedOf x = record { partition = partitionOf x; real = isReal x; place = x .page + contextOf x; word = x .word }
+
+-- an insertion's answer
+abbrev pub placedAnswer : Placed → Answer
+placedAnswer placement.Done = answer.Done 0
+placedAnswer (placement.Displaced x) = answer.Displaced (displacedOf x)
+placedAnswer placement.Refused = answer.Refused refusal.NoSlot
+
+-- a demap answers the count removed
+abbrev pub demap : State → ℕ → Removal → Stepped
+demap u side which = stepped (withSide u side (removed (removes which) (sideOf u side))) (answer.Done (count (removes which) (sideOf u side)))
+
+-- ---- pointers
+-- "16 × ((address div page size) mod 2^(9+N))"
+unfoldable pub tsbOffset : ℕ → ℕ → ℕ → ℕ
+tsbOffset n code address = 16 * (address / pageSize code % 2 ^ (9 + n))
+
+-- "base with its low 13 + N bits cleared, plus" the offset
+unfoldable pub tsbPointer : ℕ → ℕ → ℕ → ℕ
+tsbPointer base code address = base / 2 ^ (13 + base % 2 ^ 4) * 2 ^ (13 + base % 2 ^ 4) + tsbOffset (base % 2 ^ 4) code address
+
+-- "context of tag access picks the registers"; size 0 is ps0, 1 is ps1
+abbrev pub pointer : List ℕ → ℕ → ℕ → ℕ → ℕ
+pointer file strand side size =
+    let tag : ℕ = tagAccess file strand side in
+    let configuration : ℕ = register file strand (configurationNumber side (tagContext tag)) in
+    tsbPointer (register file strand (baseNumber side (tagContext tag) size)) (bits (8 * size) 3 configuration) (tagAddress tag)
+
+-- ---- what a command does that no question refused
+unfoldable pub act : State → Command → Stepped
+act u (command.Write strand number value) = stepped (withRegisters u (withRegister (u .registers) strand number value)) (answer.Done 0)
+act u (command.Insert strand side flags word) =
+    let new : Slot = insertion u strand side flags word in
+    stepped (withSide u side (inserted candidate new (sideOf u side))) (placedAnswer (placed candidate new (sideOf u side)))
+act u (command.DemapPage strand side selector flags address) =
+    demap u side (removal.Page (keyOf (flagReal flags) (partition (u .registers) strand) (selected (u .registers) strand selector) address))
+act u (command.DemapContext strand side selector) =
+    demap u side (removal.Context (partition (u .registers) strand) (selected (u .registers) strand selector))
+act u (command.DemapAll strand side) = demap u side (removal.Unlocked (partition (u .registers) strand))
+act u (command.Invalidate side) = stepped (withSide u side (removed (removes removal.Everything) (sideOf u side))) (answer.Done 0)
+act u (command.Access strand kind selector size address) =
+    accessTo u (record { strand = strand; kind = kind; selector = selector; size = size; used = addressUsed (u .registers) strand address })
+act u (command.Read strand number) = stepped u (answer.Read (register (u .registers) strand number) 0)
+act u (command.Pointers strand side) = stepped u (answer.Read (pointer (u .registers) strand side 0) (pointer (u .registers) strand side 1))
+
+-- "a refused command changes nothing"
+abbrev pub stepBy : Verdict → State → Command → Stepped
+stepBy Passed u c = act u c
+stepBy (Refused r) u c = stepped u (answer.Refused r)
+
+unfoldable pub step : State → Command → Stepped
+step u c = stepBy (verdict u c) u c

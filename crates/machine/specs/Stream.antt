@@ -1,0 +1,147 @@
+-- Document 01, "The stream": commands read from bytes, answers as bytes, and a run.
+-- Assumes nothing.
+use Prim.Native.Nat.{ℕ, zero, suc, _+_, _*_, _-_, _/_, _%_, _^_}
+use mathlib.Core.Bool.{Bool, cond}
+use mathlib.Core.List.{List, [], _∷_, _++_}
+use lib.Dec.{eqb, ltb}
+use lib.ListN.{length, getD}
+use lib.Seq.{sets}
+use Rattle.laws.specs.Tests.{tick}
+use Rattle.machine.specs.State.{Counts, State, stateOf, encode, wordsSound}
+use Rattle.machine.specs.Questions.{refusalNumber}
+use Rattle.machine.specs.Access.{Stepped, trapNumber, trapFault}
+use Rattle.machine.specs.Step.{step}
+use Rattle.machine.specs.declared.Command.{Command}
+use Rattle.machine.specs.declared.Command.the-variants as command
+use Rattle.machine.specs.declared.Answer.{Answer}
+use Rattle.machine.specs.declared.Answer.the-variants as answer
+use Rattle.machine.specs.declared.Decoded.{Decoded}
+use Rattle.machine.specs.declared.Decoded.the-variants.{Known, Stop}
+use Rattle.machine.specs.declared.Run.{Run}
+
+abbrev pub Bytes : Type 0
+Bytes = List ℕ
+
+-- ---- commands
+abbrev pub byte : Bytes → ℕ → ℕ
+byte s i = getD s i 0
+
+-- two, four, eight bytes from i, big-endian
+abbrev pub two : Bytes → ℕ → ℕ
+two s i = byte s i * 256 + byte s (i + 1)
+
+abbrev pub four : Bytes → ℕ → ℕ
+four s i = two s i * 65536 + two s (i + 2)
+
+unfoldable pub eight : Bytes → ℕ → ℕ
+eight s i = four s i * 4294967296 + four s (i + 4)
+
+-- "All operands present? 3": a command of a known byte, by its width
+abbrev pub whole : Bytes → ℕ → ℕ → Command → Decoded
+whole s at width c = cond (ltb (length s - at) width) (Stop 3) (Known c width)
+
+-- what stands at a position; "Command byte known? 2"
+unfoldable pub decodeAt : Bytes → ℕ → Decoded
+decodeAt s at =
+    let operand : ℕ → ℕ = λ i. byte s (at + i) in
+    cond (eqb (byte s at) 1) (whole s at 11 (command.Write (operand 1) (operand 2) (eight s (at + 3))))
+    (cond (eqb (byte s at) 2) (whole s at 12 (command.Insert (operand 1) (operand 2) (operand 3) (eight s (at + 4))))
+    (cond (eqb (byte s at) 3) (whole s at 13 (command.DemapPage (operand 1) (operand 2) (operand 3) (operand 4) (eight s (at + 5))))
+    (cond (eqb (byte s at) 4) (whole s at 4 (command.DemapContext (operand 1) (operand 2) (operand 3)))
+    (cond (eqb (byte s at) 5) (whole s at 3 (command.DemapAll (operand 1) (operand 2)))
+    (cond (eqb (byte s at) 6) (whole s at 2 (command.Invalidate (operand 1)))
+    (cond (eqb (byte s at) 7) (whole s at 13 (command.Access (operand 1) (operand 2) (operand 3) (operand 4) (record { 0 = eight s (at + 5) })))
+    (cond (eqb (byte s at) 8) (whole s at 3 (command.Read (operand 1) (operand 2)))
+    (cond (eqb (byte s at) 9) (whole s at 3 (command.Pointers (operand 1) (operand 2)))
+    (Stop 2)))))))))
+
+-- ---- answers
+-- eight bytes of a value, big-endian
+abbrev pub bytes : ℕ → Bytes
+bytes v =
+    v / 2 ^ 56 % 256 ∷ v / 2 ^ 48 % 256 ∷ v / 2 ^ 40 % 256 ∷ v / 2 ^ 32 % 256
+    ∷ v / 2 ^ 24 % 256 ∷ v / 2 ^ 16 % 256 ∷ v / 2 ^ 8 % 256 ∷ v % 256 ∷ []
+
+-- "kind, a, b, c, four zeros, two big-endian values of 8"
+abbrev pub answerOf : ℕ → ℕ → ℕ → ℕ → ℕ → ℕ → Bytes
+answerOf kind a b c v w = (kind ∷ a % 256 ∷ b % 256 ∷ c % 256 ∷ 0 ∷ 0 ∷ 0 ∷ 0 ∷ []) ++ (bytes v ++ bytes w)
+
+unfoldable pub answerBytes : Answer → Bytes
+-- "Kind 0 done (0x03 to 0x05: first value the count removed)."
+answerBytes (answer.Done n) = answerOf 0 0 0 0 n 0
+-- "1 physical: a = cp + 2·e + 4·ie, first value the address."
+answerBytes (answer.Physical t) = answerOf 1 (t .attributes) 0 0 (t .address .0) 0
+-- "2 trap: a number, b fault type, first value the address used, second the tag access after it."
+answerBytes (answer.Trap t) = answerOf 2 (trapNumber (t .trap)) (trapFault (t .trap)) 0 (t .address .0) (t .tag)
+-- "3 read: the register as first value, or the two pointers."
+answerBytes (answer.Read v w) = answerOf 3 0 0 0 v w
+-- "4 displaced: b partition, c realness, first value page address plus context, second the word."
+answerBytes (answer.Displaced d) = answerOf 4 0 (d .partition) (tick (d .real)) (d .place) (d .word)
+-- "5 refused: a number."
+answerBytes (answer.Refused r) = answerOf 5 (refusalNumber r) 0 0 0 0
+
+-- ---- a run
+-- what a run takes of its bytes: it goes by the bytes and the room alone
+pub record Taken : Type 0 where
+  pub commands : List Command
+  pub width : ℕ
+  pub stop : ℕ
+
+abbrev pub ended : ℕ → Taken
+ended k = record { commands = []; width = 0; stop = k }
+
+abbrev pub more : Command → ℕ → Taken → Taken
+more c width rest = record { commands = c ∷ rest .commands; width = width + rest .width; stop = rest .stop }
+
+-- "24 output bytes left? 4"
+abbrev pub takesOne : Decoded → ℕ → (ℕ → Taken) → Taken
+takesOne (Stop k) room rest = ended k
+takesOne (Known c width) room rest = cond (ltb room 24) (ended 4) (more c width (rest width))
+
+-- from a position, with room left, at most `turns` commands
+unfoldable pub takes : ℕ → Bytes → ℕ → ℕ → Taken
+takes zero input at room = ended 0
+takes (suc turns) input at room =
+    cond (ltb at (length input)) (takesOne (decodeAt input at) room (λ width. takes turns input (at + width) (room - 24))) (ended 0)
+
+-- a command has a byte at least, so there are no more turns than bytes
+abbrev pub takenOf : Bytes → ℕ → Taken
+takenOf input room = takes (length input) input 0 room
+
+-- the state after commands, and the bytes of their answers
+unfoldable pub after : State → List Command → State
+after u [] = u
+after u (c ∷ cs) = after (step u c .state) cs
+
+unfoldable pub answersBytes : State → List Command → Bytes
+answersBytes u [] = []
+answersBytes u (c ∷ cs) = answerBytes (step u c .answer) ++ answersBytes (step u c .state) cs
+
+-- all that a run leaves and returns
+pub record Outcome : Type 0 where
+  pub words : List ℕ
+  pub output : Bytes
+  pub answered : ℕ
+  pub taken : ℕ
+  pub stop : ℕ
+
+-- what a call leaves in the lent words and bytes, with what it returns
+abbrev pub outcome : List ℕ → Bytes → Run → Outcome
+outcome words output r = record { words = words; output = output; answered = r .answered; taken = r .taken; stop = r .stop }
+
+-- after `answered` commands of `at` bytes, the commands yet to be taken
+unfoldable pub finish : State → Bytes → ℕ → ℕ → Taken → Outcome
+finish u output answered at rest = record {
+  words = encode (after u (rest .commands));
+  output = sets output (answered * 24) (answersBytes u (rest .commands));
+  answered = answered + length (rest .commands);
+  taken = at + rest .width;
+  stop = rest .stop;
+}
+
+-- number 1 once and first; then command after command
+unfoldable pub runOf : Counts → List ℕ → Bytes → Bytes → Outcome
+runOf n words input output =
+    cond (wordsSound n words)
+    (finish (stateOf n words) output 0 0 (takenOf input (length output)))
+    (record { words = words; output = output; answered = 0; taken = 0; stop = 1 })

@@ -1,0 +1,267 @@
+// What a buyer must believe: the declared types, the definitions in specs/ and the theorems on them.
+ghost use mathlib.Core.Path.{_≡_};
+ghost use Rattle.machine.specs.State.{Counts};
+ghost use Rattle.machine.specs.Demand3.{Demand3};
+ghost use Rattle.machine.specs.Frame.{Framed, SoundKept};
+ghost use Rattle.machine.specs.Examples.{Starred, PrintedRun};
+ghost use Rattle.machine.specs.Unseen.{Unseen};
+ghost use Rattle.machine.specs.Format.{Decodes};
+
+// The three kinds of address. None is read for another: each crossing is a function with a name.
+pub struct VirtualAddress(pub u64);
+
+pub struct RealAddress(pub u64);
+
+pub struct PhysicalAddress(pub u64);
+
+// The fields of an entry word (a sun4v TTE), from bit 63 down.
+pub struct Tte {
+    pub v: u64,
+    pub nfo: u64,
+    pub soft2: u64,
+    pub address: u64,
+    pub ie: u64,
+    pub e: u64,
+    pub cp: u64,
+    pub cv: u64,
+    pub p: u64,
+    pub ep: u64,
+    pub w: u64,
+    pub soft: u64,
+    pub size: u64,
+}
+
+// An address and whose it is: what a lookup asks for, and what an insertion maps. A real one has no context.
+pub enum Key {
+    Virtual {
+        partition: u64,
+        context: u64,
+        address: VirtualAddress,
+    },
+    Real {
+        partition: u64,
+        address: RealAddress,
+    },
+}
+
+// The four words of a slot, as they stand in the state.
+//   owner  partition * 2^14 + real bit * 2^13 + context
+//   page   the virtual or real address at which the page starts
+//   word   the TTE; bit 63 says that the slot is live, bits 3:0 are the size code
+//   flags  lock + 2 * used bit
+pub struct Slot {
+    pub owner: u64,
+    pub page: u64,
+    pub word: u64,
+    pub flags: u64,
+}
+
+// An address against an entry's page: inside, with the page's size code and the offset, or outside.
+pub enum PageMatch {
+    Within { code: u64, offset: u64 },
+    Outside,
+}
+
+// Which entries a removal takes.
+pub enum Removal {
+    // demap page: the entry that answers to a key
+    Page(Key),
+    // demap context: the virtual entries of a partition and a context
+    Context { partition: u64, context: u64 },
+    // demap all: a partition's unlocked entries
+    Unlocked { partition: u64 },
+    // invalidate all
+    Everything,
+    // insertion: the entries that the new one overlaps
+    Overlapping(Slot),
+}
+
+// What the choice of a slot looks for. A candidate is an entry that may be displaced.
+pub enum Wanted {
+    Empty,
+    Unused,
+    Candidate,
+}
+
+// The slot that an insertion takes: an empty one; else an unused candidate; else, with all used bits cleared, a candidate; else none.
+pub enum Choice {
+    Empty(usize),
+    Unused(usize),
+    Cleared(usize),
+    Full,
+}
+
+// What an insertion comes to: a slot was empty, an entry was displaced, or no slot was to be had.
+pub enum Placed {
+    Done,
+    Displaced(Slot),
+    Refused,
+}
+
+// A decoded command, its operands as they stand in the stream.
+pub enum Command {
+    Write {
+        strand: u8,
+        register: u8,
+        value: u64,
+    },
+    Insert {
+        strand: u8,
+        side: u8,
+        flags: u8,
+        word: u64,
+    },
+    DemapPage {
+        strand: u8,
+        side: u8,
+        selector: u8,
+        flags: u8,
+        address: u64,
+    },
+    DemapContext {
+        strand: u8,
+        side: u8,
+        selector: u8,
+    },
+    DemapAll {
+        strand: u8,
+        side: u8,
+    },
+    Invalidate {
+        side: u8,
+    },
+    Access {
+        strand: u8,
+        kind: u8,
+        selector: u8,
+        size: u8,
+        address: VirtualAddress,
+    },
+    Read {
+        strand: u8,
+        register: u8,
+    },
+    Pointers {
+        strand: u8,
+        side: u8,
+    },
+}
+
+// Why a command that was taken did not act: numbers 5 to 13, in their order.
+pub enum Refusal {
+    Strand,
+    Side,
+    Selector,
+    Operand,
+    Register,
+    Value,
+    Address,
+    Word,
+    NoSlot,
+}
+
+// What the questions before a command say.
+pub enum Verdict {
+    Passed,
+    Refused(Refusal),
+}
+
+// The traps of an access, by the T1's names. A fault type goes with an access exception alone.
+pub enum Trap {
+    InstructionAccessException(u64),
+    DataAccessException(u64),
+    AddressNotAligned,
+    PrivilegedAction,
+    InstructionRealMiss,
+    DataRealMiss,
+    InstructionMiss,
+    DataMiss,
+    DataProtection,
+}
+
+// The operands of an access, its address already the one used.
+pub struct Access {
+    pub strand: u8,
+    pub kind: u8,
+    pub selector: u8,
+    pub size: u8,
+    pub used: VirtualAddress,
+}
+
+// What a trap does to tag access: nothing, or it writes the address used and a context.
+pub enum Tag {
+    Kept,
+    Written(u64),
+}
+
+// How far an access comes before the lookup.
+pub enum Prepared {
+    Stopped(Trap, Tag),
+    Bypass(Translation),
+    Lookup(Key),
+}
+
+// What a found entry's word says to an access.
+pub enum Judged {
+    Faulted(Trap),
+    Translated(Translation),
+}
+
+// A trap with the address used and the tag access register after it.
+pub struct Trapped {
+    pub trap: Trap,
+    pub address: VirtualAddress,
+    pub tag: u64,
+}
+
+// A physical address, and cp + 2 * e + 4 * ie of its page.
+pub struct Translation {
+    pub address: PhysicalAddress,
+    pub attributes: u64,
+}
+
+// A displaced entry as an answer names it: partition, real bit, page address plus context, and the word.
+pub struct Displaced {
+    pub partition: u64,
+    pub real: bool,
+    pub place: u64,
+    pub word: u64,
+}
+
+// What a command answers.
+pub enum Answer {
+    Done(u64),
+    Physical(Translation),
+    Trap(Trapped),
+    Read(u64, u64),
+    Displaced(Displaced),
+    Refused(Refusal),
+}
+
+// What stands at a position of the stream: a command and its width, or the number that ends the run.
+pub enum Decoded {
+    Known(Command, usize),
+    Stop(u8),
+}
+
+// What a run returns beside the state and the output.
+#[repr(C)]
+pub struct Run {
+    pub answered: usize,
+    pub taken: usize,
+    pub stop: u8,
+}
+
+// The bytes of an answer. The other clauses hold only while their theorems are proved, so the gate asks for them.
+pub fn answer_width() -> usize
+    ensures width { λ r. ⌜ r ≡ 24 ⌝ }
+    ensures demand3 { λ r. ⌜ ((n : Counts) → Demand3 n) ⌝ }
+    ensures sound { λ r. ⌜ SoundKept ⌝ }
+    ensures framed { λ r. ⌜ Framed ⌝ }
+    ensures unseen { λ r. ⌜ Unseen ⌝ }
+    ensures decodes { λ r. ⌜ Decodes ⌝ }
+    ensures starred { λ r. ⌜ Starred ⌝ }
+    ensures printed { λ r. ⌜ PrintedRun ⌝ }
+{
+    24
+}

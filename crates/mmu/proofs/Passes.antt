@@ -1,0 +1,96 @@
+-- What the code that acts may rely on: the operands of a command that passed its questions, and an entry displaced from a sound side.
+-- Assumes nothing.
+use Prim.Native.Nat.{ℕ, _+_, _-_, _^_, _<_}
+use mathlib.Core.Path.{_≡_}
+use mathlib.Core.Bool.{true}
+use mathlib.Core.List.{List}
+use native.Mathlib.Omega.{arith}
+use lib.Dec.{ltb, leb}
+use borrow.Author.Tests.{eqb-true, ltb-true}
+use Rattle.laws.specs.Tests.{allOf}
+use Rattle.laws.proofs.Bools.{by-test, and-left, and-right, or-other}
+use Rattle.machine.specs.Pages.{inRange}
+use Rattle.machine.specs.Slots.{isLive}
+use Rattle.machine.specs.Insertion.{candidate, placed}
+use Rattle.machine.specs.Sound.{slotSound, sideSound}
+use Rattle.machine.specs.Registers.{known, writable}
+use Rattle.machine.specs.State.{State}
+use Rattle.machine.specs.Questions.{asked, verdict}
+use Rattle.machine.specs.declared.Slot.{Slot}
+use Rattle.machine.specs.declared.Placed.{Placed}
+use Rattle.machine.specs.declared.Placed.the-variants.{Done, Displaced, Refused}
+use Rattle.machine.specs.declared.Command.{Command}
+use Rattle.machine.specs.declared.Command.the-variants as command
+use Rattle.machine.specs.declared.Verdict.the-variants.{Passed}
+use Rattle.machine.proofs.Insertion.{PlacedSays, placed-says}
+use Rattle.machine.proofs.Sound.{live-parts, sound-slot}
+use Rattle.machine.proofs.Sides.{aligned}
+use Rattle.machine.proofs.State.{passed-asked, known-below, writable-below}
+use Rattle.mmu.specs.Fits.{PlaceFits}
+
+ruleset conj = (and-left, and-right, eqb-true, ltb-true)
+
+-- strands, sides and registers within the state
+abbrev pub Within : Command → Type 0
+Within (command.Write strand number value) = (strand < 4) × (number < 32)
+Within (command.Insert strand side flags word) = (strand < 4) × (side < 2)
+Within (command.DemapPage strand side selector flags address) = (strand < 4) × (side < 2)
+Within (command.DemapContext strand side selector) = (strand < 4) × (side < 2)
+Within (command.DemapAll strand side) = (strand < 4) × (side < 2)
+Within (command.Invalidate side) = side < 2
+Within (command.Access strand kind selector size address) = (strand < 4) × (size < 4)
+Within (command.Read strand number) = (strand < 4) × (number < 32)
+Within (command.Pointers strand side) = (strand < 4) × (side < 2)
+
+pub passed-within : (u : State) (c : Command) → verdict u c ≡ Passed → Within c
+unfolding asked allOf
+passed-within u (command.Write strand number value) v =
+    let q = passed-asked u (command.Write strand number value) v in
+    let w : writable number ≡ true = search conj in
+    (search conj, omega (arith, writable-below number w))
+passed-within u (command.Insert strand side flags word) v =
+    let q = passed-asked u (command.Insert strand side flags word) v in
+    (search conj, search conj)
+passed-within u (command.DemapPage strand side selector flags address) v =
+    let q = passed-asked u (command.DemapPage strand side selector flags address) v in
+    (search conj, search conj)
+passed-within u (command.DemapContext strand side selector) v =
+    let q = passed-asked u (command.DemapContext strand side selector) v in
+    (search conj, search conj)
+passed-within u (command.DemapAll strand side) v =
+    let q = passed-asked u (command.DemapAll strand side) v in
+    (search conj, search conj)
+passed-within u (command.Invalidate side) v =
+    let q = passed-asked u (command.Invalidate side) v in
+    search conj
+passed-within u (command.Access strand kind selector size address) v =
+    let q = passed-asked u (command.Access strand kind selector size address) v in
+    (search conj, search conj)
+passed-within u (command.Read strand number) v =
+    let q = passed-asked u (command.Read strand number) v in
+    let k : known number ≡ true = search conj in
+    (search conj, omega (arith, known-below number k))
+passed-within u (command.Pointers strand side) v =
+    let q = passed-asked u (command.Pointers strand side) v in
+    (search conj, search conj)
+
+range-below : (a : ℕ) → inRange a ≡ true → a < 2 ^ 64
+unfolding inRange
+range-below a h =
+    by-test (ltb a (2 ^ 47))
+    (λ e. omega (arith, ltb-true a (2 ^ 47) e))
+    (λ e. ltb-true a (2 ^ 64) (and-right (leb (2 ^ 64 - 2 ^ 47) a) _ (or-other (ltb a (2 ^ 47)) _ h e)))
+
+-- a page starts at a multiple of 2^13, so its context fits beside it
+pub place-fits : (new : Slot) (s : List Slot) → sideSound s ≡ true → PlaceFits (placed candidate new s)
+place-fits new s h = go (placed candidate new s) (placed-says candidate new s)
+  where
+    go : (r : Placed) → PlacedSays candidate new s r → PlaceFits r
+    go Done w = tt
+    go Refused w = tt
+    go (Displaced x) w =
+        let k : slotSound x ≡ true = rw (w .there) at (sound-slot s (w .index) h) in
+        let l : isLive x ≡ true = and-left _ _ (w .allowed) in
+        let p = live-parts x k l in
+        let (q, a) = aligned x k l in
+        omega (arith, range-below (x .page) (p .range), p .context)

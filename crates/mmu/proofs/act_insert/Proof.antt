@@ -1,0 +1,42 @@
+-- `mmu::act_insert` meets its contract.
+use mathlib.Core.Path.{sym, _∙_}
+use Rattle.machine.specs.State.{counts, stateOf, sideOf}
+use Rattle.machine.specs.Questions.{insertion}
+use Rattle.machine.specs.Step.{act}
+use Rattle.machine.proofs.State.{sound-side}
+use Rattle.mmu.proofs.Passes.{passed-within, place-fits}
+use borrow.Author.Needs.{needs}
+use Rattle.mmu.proofs.act_insert.Statement.{statement}
+use Rattle.mmu.proofs.act_insert.Tie as tie
+
+entry-for-requires : tie.Need-entry-for-requires
+entry-for-requires c κs = let w = passed-within _ _ (c .before .before .pre .2) in (search needs, w .0, w .1)
+
+insert-side-requires : tie.Need-insert-side-requires
+insert-side-requires c κs = (search needs, passed-within _ _ (c .before .before .before .before .pre .2) .1)
+
+placed-to-answer-requires : tie.Need-placed-to-answer-requires
+placed-to-answer-requires c κs =
+    let start = c .before .before .before .before .before .before .before in
+    let u = stateOf counts (start .args .state .now) in
+    rw (c .before .before .insert-side .ensures .1) (place-fits _ _ (sound-side counts u (start .pre .1) (start .args .side) .1))
+
+same-length : tie.Need-same-length
+same-length c = search needs
+
+returns : tie.Need-returns
+unfolding act
+returns c =
+    let did = c .before .before .before .insert-side in
+    let e = c .before .before .before .before .before .entry-for .ensures in
+    (did .ensures .0 ∙ rw e, c .placed-to-answer .ensures ∙ rw (did .ensures .1, e))
+
+pub act-insert-spec : {M : Type 1} → statement M
+act-insert-spec =
+    tie.close
+    (tie.spec
+    entry-for-requires
+    insert-side-requires
+    placed-to-answer-requires
+    same-length
+    returns)

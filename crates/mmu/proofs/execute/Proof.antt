@@ -1,0 +1,56 @@
+-- `mmu::execute` meets its contract.
+use mathlib.Core.Path.{sym, _∙_}
+use Rattle.machine.specs.State.{counts}
+use Rattle.machine.specs.Step.{step}
+use Rattle.machine.proofs.State.{encode-state}
+use borrow.Author.Needs.{needs}
+use Rattle.mmu.proofs.execute.Statement.{statement}
+use Rattle.mmu.proofs.execute.Tie as tie
+
+question-requires : tie.Need-question-requires
+question-requires c κs = search needs
+
+enum-known-refusal : tie.Need-enum-known-refusal
+enum-known-refusal c = search needs
+
+same-length : tie.Need-same-length
+same-length c = search needs
+
+returns : tie.Need-returns
+unfolding step
+returns c =
+    let q = c .before .before .before in
+    let e = sym (q .question .ensures) ∙ c .before .refusal .given .1 in
+    (rw e (sym (encode-state counts _ (q .before .before .before .pre .0))), rw e)
+
+enum-told : tie.Need-enum-told
+enum-told c = search needs
+
+act-command-requires : tie.Need-act-command-requires
+act-command-requires c κs =
+    let q = c .before .before .before in
+    (search needs, q .before .before .before .pre .1, sym (q .question .ensures) ∙ c .before .enum-told .given .1)
+
+same-length-2 : tie.Need-same-length-2
+same-length-2 c = search needs
+
+returns-2 : tie.Need-returns-2
+unfolding step
+returns-2 c =
+    let a = c .before .before in
+    let q = a .before .before .before .before in
+    let e = sym (q .question .ensures) ∙ a .before .before .enum-told .given .1 in
+    (a .act-command .ensures .0 ∙ rw e, a .act-command .ensures .1 ∙ rw e)
+
+pub execute-spec : {M : Type 1} → statement M
+execute-spec =
+    tie.close
+    (tie.spec
+    question-requires
+    enum-known-refusal
+    same-length
+    returns
+    enum-told
+    act-command-requires
+    same-length-2
+    returns-2)

@@ -1,0 +1,37 @@
+-- `mmu::offset_in_tsb` meets its contract.
+use Prim.Native.Nat.{_+_}
+use lib.Pow.{pow-mono}
+use native.Mathlib.Omega.{arith}
+use lib.Pow.{pow-pos}
+use Rattle.machine.specs.Step.{tsbOffset}
+use Rattle.machine.proofs.Pages.{shift-small}
+use Rattle.mmu.proofs.Tsb.{tsb-entries, offset-below}
+use borrow.Author.Needs.{needs}
+use Rattle.mmu.proofs.offset_in_tsb.Statement.{statement}
+use Rattle.mmu.proofs.offset_in_tsb.Tie as tie
+
+page-shift-requires : tie.Need-page-shift-requires
+page-shift-requires c κs = search needs
+
+shr-result : tie.Need-shr-result
+shr-result c = rw (c .page-shift .ensures) (omega (arith, shift-small (c .before .args .code)))
+
+shl-result : tie.Need-shl-result
+shl-result c = search needs
+
+rem-result : tie.Need-rem-result
+rem-result c = rw (tsb-entries (c .before .args .n) (c .before .pre)) (pow-pos _)
+
+mul-result : tie.Need-mul-result
+unfolding tsbOffset
+mul-result c =
+    let n = c .before .args .n in
+    rw (c .page-shift .ensures, tsb-entries n (c .before .pre)) (omega (arith, offset-below n (c .before .args .code) (c .before .args .address), pow-mono {i = 13 + n} {j = 64} (omega arith)))
+
+returns : tie.Need-returns
+unfolding tsbOffset
+returns c = rw (c .page-shift .ensures, tsb-entries (c .before .args .n) (c .before .pre))
+
+pub offset-in-tsb-spec : {M : Type 1} → statement M
+offset-in-tsb-spec =
+    tie.close (tie.spec page-shift-requires shr-result shl-result rem-result mul-result returns)

@@ -1,0 +1,24 @@
+-- `pages::page_size` meets its contract: the bit does not leave the word.
+use mathlib.Core.Path.{_∙_}
+use native.Mathlib.Omega.{arith}
+use borrow.Author.Needs.{needs}
+use lib.Dec.{lit<}
+use lib.Pow.{shl-exact}
+use Rattle.machine.specs.Pages.{pageShift}
+use Rattle.machine.proofs.Pages.{shift-small}
+use Rattle.pages.proofs.page_size.Statement.{statement}
+use Rattle.pages.proofs.page_size.Tie as tie
+
+page-shift-requires : tie.Need-page-shift-requires
+page-shift-requires c κs = search needs
+
+shl-result : tie.Need-shl-result
+shl-result c = rw (c .page-shift .ensures) (omega (arith, shift-small (c .before .args .code)))
+
+returns : tie.Need-returns
+returns c =
+    let k = pageShift (c .before .args .code) in
+    rw (c .page-shift .ensures) (shl-exact 1 k 64 (lit< tt) (omega (arith, shift-small (c .before .args .code))) ∙ omega arith)
+
+pub page-size-spec : {M : Type 1} → statement M
+page-size-spec = tie.close (tie.spec page-shift-requires shl-result returns)

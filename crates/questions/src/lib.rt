@@ -1,0 +1,247 @@
+// Questions 5 to 13, asked on the state as it is before a command acts: document 01, "Questions before a command acts".
+ghost use mathlib.Core.Path.{_≡_};
+ghost use Prim.Native.Nat.{_<_};
+ghost use mathlib.Core.List.{[], _∷_};
+ghost use lib.Dec.{ltb};
+ghost use lib.ListN.{length};
+ghost use Rattle.machine.specs.State.{counts, stateWords, stateOf};
+ghost use Rattle.machine.specs.Questions.{selectorFits, nucleusFetch, sizeFits, question, ask, verdict};
+ghost use Rattle.machine.specs.declared.Command.the-variants as command;
+ghost use Rattle.machine.specs.declared.Refusal.the-variants as refusal;
+use machine::Command;
+use machine::Refusal;
+use machine::Verdict;
+use machine::VirtualAddress;
+
+// Selector 0 to 2, not 1 on side 0.
+fn selector_fits(side: u8, selector: u8) -> bool
+    ensures { λ r. ⌜ r ≡ selectorFits side selector ⌝ }
+{
+    if 3 <= selector {
+        return false;
+    }
+    if side != 0 {
+        return true;
+    }
+    selector != 1
+}
+
+// Size 0 to 3, a fetch 2.
+fn size_fits(kind: u8, size: u8) -> bool
+    ensures { λ r. ⌜ r ≡ sizeFits kind size ⌝ }
+{
+    if 4 <= size {
+        return false;
+    }
+    if kind != 0 {
+        return true;
+    }
+    size == 2
+}
+
+// A fetch of the nucleus in mode 0.
+fn is_nucleus_fetch(state: &[u64], strand: u8, kind: u8, selector: u8) -> bool
+    requires { ⌜ (length (now state) ≡ stateWords counts) × (strand < 4) ⌝ }
+    ensures { λ r. ⌜ r ≡ nucleusFetch (stateOf counts (now (state .entry)) .registers) strand kind selector ⌝ }
+{
+    if kind != 0 {
+        return false;
+    }
+    if selector != 2 {
+        return false;
+    }
+    state::read_register(state, strand, 3) == 0
+}
+
+fn ask_write(state: &[u64], strand: u8, number: u8, value: u64) -> Verdict
+    ensures { λ r. ⌜ r ≡ verdict (stateOf counts (now (state .entry))) (command.Write strand number value) ⌝ }
+{
+    if 4 <= strand {
+        return Verdict::Refused(Refusal::Strand);
+    }
+    if !registers::is_writable(number) {
+        return Verdict::Refused(Refusal::Register);
+    }
+    if !registers::is_allowed(number, value) {
+        return Verdict::Refused(Refusal::Value);
+    }
+    Verdict::Passed
+}
+
+fn ask_insert(state: &[u64], strand: u8, side: u8, flags: u8, word: u64) -> Verdict
+    requires { ⌜ length (now state) ≡ stateWords counts ⌝ }
+    ensures { λ r. ⌜ r ≡ verdict (stateOf counts (now (state .entry))) (command.Insert strand side flags word) ⌝ }
+{
+    if 4 <= strand {
+        return Verdict::Refused(Refusal::Strand);
+    }
+    if 2 <= side {
+        return Verdict::Refused(Refusal::Side);
+    }
+    if 4 <= flags {
+        return Verdict::Refused(Refusal::Operand);
+    }
+    if !pages::in_range(operands::tag_of(state, strand, side) / 0x2000 * 0x2000) {
+        return Verdict::Refused(Refusal::Address);
+    }
+    if !tte::word_insertable(word) {
+        return Verdict::Refused(Refusal::Word);
+    }
+    if !state::slot_to_be_had(
+        state,
+        side,
+        operands::entry_for(state, strand, side, flags, word),
+    ) {
+        return Verdict::Refused(Refusal::NoSlot);
+    }
+    Verdict::Passed
+}
+
+fn ask_demap_page(
+    state: &[u64],
+    strand: u8,
+    side: u8,
+    selector: u8,
+    flags: u8,
+    address: u64,
+) -> Verdict
+    ensures { λ r. ⌜ r ≡ verdict (stateOf counts (now (state .entry))) (command.DemapPage strand side selector flags address) ⌝ }
+{
+    if 4 <= strand {
+        return Verdict::Refused(Refusal::Strand);
+    }
+    if 2 <= side {
+        return Verdict::Refused(Refusal::Side);
+    }
+    if !selector_fits(side, selector) {
+        return Verdict::Refused(Refusal::Selector);
+    }
+    if 2 <= flags {
+        return Verdict::Refused(Refusal::Operand);
+    }
+    if !pages::in_range(address) {
+        return Verdict::Refused(Refusal::Address);
+    }
+    Verdict::Passed
+}
+
+fn ask_demap_context(state: &[u64], strand: u8, side: u8, selector: u8) -> Verdict
+    ensures { λ r. ⌜ r ≡ verdict (stateOf counts (now (state .entry))) (command.DemapContext strand side selector) ⌝ }
+{
+    if 4 <= strand {
+        return Verdict::Refused(Refusal::Strand);
+    }
+    if 2 <= side {
+        return Verdict::Refused(Refusal::Side);
+    }
+    if !selector_fits(side, selector) {
+        return Verdict::Refused(Refusal::Selector);
+    }
+    Verdict::Passed
+}
+
+// Demap all and pointers ask the same two.
+fn ask_strand_side(strand: u8, side: u8) -> Verdict
+    ensures { λ r. ⌜ r ≡ ask (question refusal.Strand (ltb strand 4) ∷ question refusal.Side (ltb side 2) ∷ []) ⌝ }
+{
+    if 4 <= strand {
+        return Verdict::Refused(Refusal::Strand);
+    }
+    if 2 <= side {
+        return Verdict::Refused(Refusal::Side);
+    }
+    Verdict::Passed
+}
+
+fn ask_access(
+    state: &[u64],
+    strand: u8,
+    kind: u8,
+    selector: u8,
+    size: u8,
+    address: VirtualAddress,
+) -> Verdict
+    requires { ⌜ length (now state) ≡ stateWords counts ⌝ }
+    ensures { λ r. ⌜ r ≡ verdict (stateOf counts (now (state .entry))) (command.Access strand kind selector size address) ⌝ }
+{
+    if 4 <= strand {
+        return Verdict::Refused(Refusal::Strand);
+    }
+    if 5 <= kind {
+        return Verdict::Refused(Refusal::Side);
+    }
+    if !selector_fits(operands::access_side(kind), selector) {
+        return Verdict::Refused(Refusal::Selector);
+    }
+    if is_nucleus_fetch(state, strand, kind, selector) {
+        return Verdict::Refused(Refusal::Selector);
+    }
+    if !size_fits(kind, size) {
+        return Verdict::Refused(Refusal::Operand);
+    }
+    Verdict::Passed
+}
+
+fn ask_read(state: &[u64], strand: u8, number: u8) -> Verdict
+    ensures { λ r. ⌜ r ≡ verdict (stateOf counts (now (state .entry))) (command.Read strand number) ⌝ }
+{
+    if 4 <= strand {
+        return Verdict::Refused(Refusal::Strand);
+    }
+    if !registers::is_known(number) {
+        return Verdict::Refused(Refusal::Register);
+    }
+    Verdict::Passed
+}
+
+fn ask_invalidate(state: &[u64], side: u8) -> Verdict
+    ensures { λ r. ⌜ r ≡ verdict (stateOf counts (now (state .entry))) (command.Invalidate side) ⌝ }
+{
+    if 2 <= side {
+        return Verdict::Refused(Refusal::Side);
+    }
+    Verdict::Passed
+}
+
+// The first question of a command that is answered "no", or that it passed.
+pub fn question(state: &[u64], command: Command) -> Verdict
+    requires { ⌜ length (now state) ≡ stateWords counts ⌝ }
+    ensures { λ r. ⌜ r ≡ verdict (stateOf counts (now (state .entry))) command ⌝ }
+{
+    match command {
+        Command::Write {
+            strand,
+            register,
+            value,
+        } => ask_write(state, strand, register, value),
+        Command::Insert {
+            strand,
+            side,
+            flags,
+            word,
+        } => ask_insert(state, strand, side, flags, word),
+        Command::DemapPage {
+            strand,
+            side,
+            selector,
+            flags,
+            address,
+        } => ask_demap_page(state, strand, side, selector, flags, address),
+        Command::DemapContext {
+            strand,
+            side,
+            selector,
+        } => ask_demap_context(state, strand, side, selector),
+        Command::DemapAll { strand, side } => ask_strand_side(strand, side),
+        Command::Invalidate { side } => ask_invalidate(state, side),
+        Command::Access {
+            strand,
+            kind,
+            selector,
+            size,
+            address,
+        } => ask_access(state, strand, kind, selector, size, address),
+        Command::Read { strand, register } => ask_read(state, strand, register),
+        Command::Pointers { strand, side } => ask_strand_side(strand, side),
+    }
+}

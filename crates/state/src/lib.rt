@@ -1,0 +1,153 @@
+// The state as lent words: 128 register cells, then side 0, then side 1, 64 slots each.
+ghost use mathlib.Core.Path.{_≡_};
+ghost use mathlib.Core.Bool.{true};
+ghost use Prim.Native.Nat.{_+_, _*_, _<_};
+ghost use lib.ListN.{length, getD};
+ghost use Rattle.laws.specs.Tests.{count};
+ghost use Rattle.machine.specs.Slots.{noSlot, search, setUsed};
+ghost use Rattle.machine.specs.Insertion.{removed, removes, candidate, inserted, placed, hasSlot};
+ghost use Rattle.machine.specs.Registers.{register, withRegister};
+ghost use Rattle.machine.specs.State.{counts, stateWords, stateOf, encode, sideOf, withSide, withRegisters, wordsSound, resetOf, resetNumber};
+ghost use Rattle.state.specs.Reset.{resetWord};
+use laws::Found;
+use machine::Key;
+use machine::Placed;
+use machine::Removal;
+use machine::Slot;
+
+fn cell(strand: u8, number: u8) -> usize
+    ensures { λ r. ⌜ r ≡ strand * 32 + number ⌝ }
+{
+    (strand as usize) * 32 + (number as usize)
+}
+
+// A strand's register.
+pub fn read_register(state: &[u64], strand: u8, number: u8) -> u64
+    requires { ⌜ (length (now state) ≡ stateWords counts) × (strand < 4) × (number < 32) ⌝ }
+    ensures { λ r. ⌜ r ≡ register (stateOf counts (now (state .entry)) .registers) strand number ⌝ }
+{
+    let at = cell(strand, number);
+    state[at]
+}
+
+pub fn write_register(state: &mut [u64], strand: u8, number: u8, value: u64)
+    requires { ⌜ (length (now state) ≡ stateWords counts) × (strand < 4) × (number < 32) ⌝ }
+    ensures { λ r. ⌜ now (state .exit) ≡ encode (withRegisters (stateOf counts (now (state .entry)))
+        (withRegister (stateOf counts (now (state .entry)) .registers) strand number value)) ⌝ }
+{
+    let at = cell(strand, number);
+    state[at] = value;
+}
+
+// Where a side's words start.
+fn side_start(side: u8) -> usize
+    ensures { λ r. ⌜ r ≡ 128 + side * 256 ⌝ }
+{
+    128 + (side as usize) * 256
+}
+
+// The lowest live slot of a side that answers to the key.
+pub fn search_side(state: &[u64], side: u8, key: Key) -> Found
+    requires { ⌜ (length (now state) ≡ stateWords counts) × (side < 2) ⌝ }
+    ensures { λ r. ⌜ r ≡ search key (sideOf (stateOf counts (now (state .entry))) side) ⌝ }
+{
+    let start = side_start(side);
+    let end = start + 256;
+    tlb::search(&state[start..end], key)
+}
+
+// Slot i of a side.
+pub fn slot_of(state: &[u64], side: u8, i: usize) -> Slot
+    requires { ⌜ (length (now state) ≡ stateWords counts) × (side < 2) × (i < 64) ⌝ }
+    ensures { λ r. ⌜ r ≡ getD (sideOf (stateOf counts (now (state .entry))) side) i noSlot ⌝ }
+{
+    let start = side_start(side);
+    let end = start + 256;
+    tlb::slot_at(&state[start..end], i)
+}
+
+// Sets the used bit of slot i of a side.
+pub fn mark_used(state: &mut [u64], side: u8, i: usize)
+    requires { ⌜ (length (now state) ≡ stateWords counts) × (side < 2) × (i < 64) ⌝ }
+    ensures { λ r. ⌜ now (state .exit) ≡ encode (withSide (stateOf counts (now (state .entry))) side
+        (setUsed i (sideOf (stateOf counts (now (state .entry))) side))) ⌝ }
+{
+    let start = side_start(side);
+    let end = start + 256;
+    tlb::set_used(&mut state[start..end], i);
+}
+
+// Whether a slot of a side is to be had for the new entry (number 13).
+pub fn slot_to_be_had(state: &[u64], side: u8, new: Slot) -> bool
+    requires { ⌜ (length (now state) ≡ stateWords counts) × (side < 2) ⌝ }
+    ensures { λ r. ⌜ r ≡ hasSlot candidate new (sideOf (stateOf counts (now (state .entry))) side) ⌝ }
+{
+    let start = side_start(side);
+    let end = start + 256;
+    tlb_update::has_slot(&state[start..end], new)
+}
+
+// An insertion on a side.
+pub fn insert_side(state: &mut [u64], side: u8, new: Slot) -> Placed
+    requires { ⌜ (length (now state) ≡ stateWords counts) × (side < 2) ⌝ }
+    ensures words { λ r. ⌜ now (state .exit) ≡ encode (withSide (stateOf counts (now (state .entry))) side
+        (inserted candidate new (sideOf (stateOf counts (now (state .entry))) side))) ⌝ }
+    ensures placed { λ r. ⌜ r ≡ placed candidate new (sideOf (stateOf counts (now (state .entry))) side) ⌝ }
+{
+    let start = side_start(side);
+    let end = start + 256;
+    tlb_update::insert(&mut state[start..end], new)
+}
+
+// A removal on a side, with its count.
+pub fn remove_side(state: &mut [u64], side: u8, which: Removal) -> u64
+    requires { ⌜ (length (now state) ≡ stateWords counts) × (side < 2) ⌝ }
+    ensures words { λ r. ⌜ now (state .exit) ≡ encode (withSide (stateOf counts (now (state .entry))) side
+        (removed (removes which) (sideOf (stateOf counts (now (state .entry))) side))) ⌝ }
+    ensures count { λ r. ⌜ r ≡ count (removes which) (sideOf (stateOf counts (now (state .entry))) side) ⌝ }
+{
+    let start = side_start(side);
+    let end = start + 256;
+    tlb_update::remove(&mut state[start..end], which)
+}
+
+// Number 1, of any words: the length, the registers and both sides.
+pub fn state_sound(state: &[u64]) -> bool
+    ensures { λ r. ⌜ r ≡ wordsSound counts (now (state .entry)) ⌝ }
+{
+    if state.len() != 640 {
+        return false;
+    }
+    if !registers::file_sound(&state[0..128]) {
+        return false;
+    }
+    if !tlb_sound::side_sound(&state[128..384]) {
+        return false;
+    }
+    tlb_sound::side_sound(&state[384..640])
+}
+
+fn reset_word(i: usize) -> u64
+    ensures { λ r. ⌜ r ≡ resetWord i ⌝ }
+{
+    if 128 <= i {
+        return 0;
+    }
+    if i % 32 == 3 { 2 } else { 0 }
+}
+
+// Fills a lent state: mode 2, all else 0. A state of another length is left as it is, and the answer is 1.
+pub fn reset(state: &mut [u64]) -> u8
+    ensures words { λ r. ⌜ now (state .exit) ≡ resetOf counts (now (state .entry)) ⌝ }
+    ensures number { λ r. ⌜ r ≡ resetNumber counts (now (state .entry)) ⌝ }
+{
+    if state.len() != 640 {
+        return 1;
+    }
+    let mut i = 0;
+    while i < 640 {
+        state[i] = reset_word(i);
+        i += 1;
+    }
+    0
+}

@@ -1,0 +1,239 @@
+-- `stream::run` meets its contract. The loop's invariant: the words are those of a sound state, and the commands yet to be taken, from that
+-- state, the output and the position as they are, make the whole run's outcome (`resume`). A turn leaves that as it is (`resume-turn`), and
+-- each way out of the loop has its own law. The measure is what is left of the input.
+-- Assumes nothing.
+use Prim.Native.Nat.{ℕ, _+_, _*_, _-_, _^_, _≤_, _<_}
+use mathlib.Core.Path.{_≡_, refl, sym, ap, _∙_}
+use mathlib.Core.Bool.{true}
+use mathlib.Core.List.{List}
+use native.Mathlib.Omega.{arith}
+use borrow.Author.Needs.{needs}
+use borrow.Author.Tests.{not-true, not-false}
+use lib.ListN.{length}
+use lib.Seq.{sets}
+use Rattle.machine.specs.declared.Decoded.the-variants.{Known}
+use Rattle.machine.specs.State.{counts, stateWords, stateOf, encode}
+use Rattle.machine.specs.State as state
+use Rattle.machine.specs.Step.{step}
+use Rattle.machine.specs.Stream.{Outcome, answerBytes, decodeAt, runOf}
+use Rattle.machine.specs.declared.Answer.{Answer}
+use Rattle.machine.specs.declared.Command.{Command}
+use Rattle.machine.proofs.State.{sound-words, encode-state, sound-encode, step-sound}
+use Rattle.machine.proofs.Runs.{decode-width, resume, resume-start, Over, resume-end, resume-stop, resume-full, resume-turn, run-unsound}
+use Rattle.wire.specs.Wire.{stopOf}
+use Rattle.stream.proofs.run.Statement.{statement}
+use Rattle.stream.proofs.run.Tie as tie
+
+record Going (state₀ input output₀ words output : List ℕ) (at answered : ℕ) : Type 0 where
+  inside : at ≤ length input
+  size : length words ≡ stateWords counts
+  sound : state.sound counts (stateOf counts words) ≡ true
+  kept : length words ≡ length state₀
+  room : length output ≡ length output₀
+  fits : answered * 24 ≤ length output
+  rest : resume (stateOf counts words) input output answered at ≡ runOf counts state₀ input output₀
+
+abbrev Inv-loop : tie.InvT-loop
+Inv-loop state₀ input output₀ at₀ answered₀ words output at answered = Going state₀ input output₀ words output at answered
+
+abbrev μ-loop : tie.MeasureT-loop
+μ-loop state₀ input output₀ at₀ answered₀ words output at answered = length input - at
+
+-- a run that ends here leaves the words as they are
+over : {state₀ input output₀ words output : List ℕ} {at answered : ℕ} (k : ℕ) → Going state₀ input output₀ words output at answered
+    → Over (stateOf counts words) input output answered at k
+    → _≡_ {A = Outcome} (record { words = words; output = output; answered = answered; taken = at; stop = k }) (runOf counts state₀ input output₀)
+over {words} k g o = (rw (encode-state counts words (g .size)) at (sym o)) ∙ g .rest
+
+-- a command answered leaves the outcome as it is
+module _ {state₀ input output₀ words output : List ℕ} {at answered : ℕ} (g : Going state₀ input output₀ words output at answered)
+    (c : Command) (words′ : List ℕ) (e : words′ ≡ encode (step (stateOf counts words) c .state)) where
+  after : stateOf counts words′ ≡ step (stateOf counts words) c .state
+  after = rw e (sound-encode counts _ (step-sound counts (stateOf counts words) c (g .sound)))
+
+  turn-sound : state.sound counts (stateOf counts words′) ≡ true
+  turn-sound = rw after (step-sound counts (stateOf counts words) c (g .sound))
+
+  turn : (width : ℕ) (a : Answer) (output′ : List ℕ) → at < length input → decodeAt input at ≡ Known c width → answered * 24 + 24 ≤ length output
+      → a ≡ step (stateOf counts words) c .answer → output′ ≡ sets output (answered * 24) (answerBytes a)
+      → resume (stateOf counts words′) input output′ (answered + 1) (at + width) ≡ runOf counts state₀ input output₀
+  turn width a output′ h f r q o = rw (after, o, q) (sym (resume-turn _ _ _ _ _ h f r) ∙ g .rest)
+
+-- ---- the command at the loop's place
+
+module _ (c : tie.After-decoded Inv-loop μ-loop) where
+  abbrev head : tie.At-loop Inv-loop μ-loop
+  head = c .before .before .before .before
+
+  abbrev input : List ℕ
+  input = head .before .before .before .before .before .before .before .args .input .now
+
+  abbrev width : ℕ
+  width = c .decoded .given .0 .1 .0
+
+  found : decodeAt input (head .loop .at) ≡ Known (c .decoded .given .0 .0) width
+  found = sym (c .before .before .decode .ensures) ∙ c .decoded .given .1
+
+  -- what the arithmetic of a turn goes by
+  record Within : Type 0 where
+    some : 0 < width
+    fits : head .loop .at + width ≤ length input
+    small : length input < 2 ^ 64
+
+  within : Within
+  within =
+      let w = decode-width input (head .loop .at) found in
+      record { some = omega arith; fits = omega arith; small = search needs }
+
+-- ---- an unsound state
+
+state-sound-requires : tie.Need-state-sound-requires Inv-loop μ-loop
+state-sound-requires c κs = search needs
+
+same-length : tie.Need-same-length Inv-loop μ-loop
+same-length c = search needs
+
+returns : tie.Need-returns Inv-loop μ-loop
+returns c = sym (run-unsound counts _ _ _ (sym (c .before .state-sound .ensures) ∙ not-true _ (c .if1 .taken)))
+
+-- ---- the loop
+
+loop-holds : tie.Need-loop-holds Inv-loop μ-loop
+loop-holds c =
+    let h = sym (c .before .state-sound .ensures) ∙ not-false _ (c .if1 .left) in
+    let w = sound-words counts _ h in
+    record {
+      inside = search needs;
+      size = w .1;
+      sound = w .0;
+      kept = refl;
+      room = refl;
+      fits = search needs;
+      rest = resume-start counts _ _ _ h;
+    }
+
+decode-requires : tie.Need-decode-requires Inv-loop μ-loop
+decode-requires c κs = omega arith
+
+enum-known-decoded : tie.Need-enum-known-decoded Inv-loop μ-loop
+enum-known-decoded c = c .match .keys1
+
+-- numbers 2 and 3
+
+enum-told : tie.Need-enum-told Inv-loop μ-loop
+enum-told c = c .match .keys2
+
+stop-number-requires : tie.Need-stop-number-requires Inv-loop μ-loop
+stop-number-requires c κs = search needs
+
+same-length-2 : tie.Need-same-length-2 Inv-loop μ-loop
+same-length-2 c = search needs
+
+same-length-3 : tie.Need-same-length-3 Inv-loop μ-loop
+same-length-3 c = search needs
+
+returns-2 : tie.Need-returns-2 Inv-loop μ-loop
+returns-2 c =
+    let told = c .before .enum-told .given in
+    let d = c .before .before .before in
+    let l = d .before .before .loop in
+    let k : c .stop-number .result ≡ told .0 .0 = c .stop-number .ensures ∙ ap stopOf (told .1) in
+    rw k (over _ (l .inv) (resume-stop _ _ _ _ _ (d .before .loop-test .taken) (sym (d .decode .ensures) ∙ told .1)))
+
+-- number 4
+
+same-length-4 : tie.Need-same-length-4 Inv-loop μ-loop
+same-length-4 c = search needs
+
+same-length-5 : tie.Need-same-length-5 Inv-loop μ-loop
+same-length-5 c = search needs
+
+returns-3 : tie.Need-returns-3 Inv-loop μ-loop
+returns-3 c =
+    let d = c .before .before in
+    let l = head d .loop in
+    over 4 (l .inv) (resume-full _ _ _ _ _ (d .before .before .before .loop-test .taken) (found d) (omega arith))
+
+-- a command answered
+
+execute-requires : tie.Need-execute-requires Inv-loop μ-loop
+execute-requires c κs =
+    let l = c .before .before .before .before .before .before .before .loop in
+    (l .inv .size, l .inv .sound)
+
+mul-put-answer : tie.Need-mul-put-answer Inv-loop μ-loop
+mul-put-answer c = omega arith
+
+put-answer-requires : tie.Need-put-answer-requires Inv-loop μ-loop
+put-answer-requires c κs = omega arith
+
+-- the turn's command, from where the turn ends
+abbrev decoded : tie.After-slice-known4 Inv-loop μ-loop → tie.After-decoded Inv-loop μ-loop
+decoded c = c .before .before .before .before .before .before .before .before .before .before
+
+add-at : tie.Need-add-at Inv-loop μ-loop
+add-at c = omega (arith, within (decoded c))
+
+add-answered : tie.Need-add-answered Inv-loop μ-loop
+add-answered c = omega (arith, within (decoded c))
+
+loop-less : tie.Need-loop-less Inv-loop μ-loop
+loop-less c = omega (arith, within (decoded c))
+
+loop-again : tie.Need-loop-again Inv-loop μ-loop
+loop-again c =
+    let put = c .before .before .put-answer in
+    let did = c .before .before .before .before .before .before .execute in
+    let d = decoded c in
+    let l = head d .loop in
+    record {
+      inside = within d .fits;
+      size = did .kept .0 ∙ l .inv .size;
+      sound = turn-sound (l .inv) _ _ (did .ensures .0);
+      kept = did .kept .0 ∙ l .inv .kept;
+      room = put .kept .0 ∙ l .inv .room;
+      fits = omega (arith, put .kept .0);
+      rest = turn (l .inv) _ _ (did .ensures .0) _ _ _ (d .before .before .before .loop-test .taken) (found d) (omega arith) (did .ensures .1) (put .ensures);
+    }
+
+-- the end of the input
+
+same-length-6 : tie.Need-same-length-6 Inv-loop μ-loop
+same-length-6 c = search needs
+
+same-length-7 : tie.Need-same-length-7 Inv-loop μ-loop
+same-length-7 c = search needs
+
+returns-4 : tie.Need-returns-4 Inv-loop μ-loop
+returns-4 c = over 0 (c .before .loop .inv) (resume-end _ _ _ _ _ (c .loop-test .left))
+
+pub run-spec : {M : Type 1} → statement M
+run-spec =
+    tie.close
+    (tie.spec
+    Inv-loop
+    μ-loop
+    state-sound-requires
+    same-length
+    returns
+    loop-holds
+    decode-requires
+    enum-known-decoded
+    enum-told
+    stop-number-requires
+    same-length-2
+    same-length-3
+    returns-2
+    same-length-4
+    same-length-5
+    returns-3
+    execute-requires
+    mul-put-answer
+    put-answer-requires
+    add-at
+    add-answered
+    loop-less
+    loop-again
+    same-length-6
+    same-length-7
+    returns-4)

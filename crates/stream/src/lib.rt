@@ -1,0 +1,49 @@
+// A run: document 01, "The stream". Number 1 once and first, then command after command from the caller's bytes.
+ghost use mathlib.Core.Path.{_≡_};
+ghost use Rattle.machine.specs.State.{counts};
+ghost use Rattle.machine.specs.Stream.{outcome, runOf};
+use machine::Decoded;
+use machine::Run;
+
+// An answer of 24 bytes into the output for every command taken. Every word of the state and every byte of the output is what `runOf`
+// says, whatever the state, the input and the room.
+pub fn run(state: &mut [u64], input: &[u8], output: &mut [u8]) -> Run
+    ensures { λ r. ⌜ outcome (now (state .exit)) (now (output .exit)) r
+        ≡ runOf counts (now (state .entry)) (now (input .entry)) (now (output .entry)) ⌝ }
+{
+    if !state::state_sound(state) {
+        return Run {
+            answered: 0,
+            taken: 0,
+            stop: 1,
+        };
+    }
+    let mut at = 0;
+    let mut answered = 0;
+    while at < input.len() {
+        let decoded = wire::decode(input, at);
+        let Decoded::Known(command, width) = decoded else {
+            return Run {
+                answered,
+                taken: at,
+                stop: wire::stop_number(decoded),
+            };
+        };
+        if output.len() / 24 <= answered {
+            return Run {
+                answered,
+                taken: at,
+                stop: 4,
+            };
+        }
+        let answer = mmu::execute(state, command);
+        wire::put_answer(output, answered * 24, answer);
+        at += width;
+        answered += 1;
+    }
+    Run {
+        answered,
+        taken: at,
+        stop: 0,
+    }
+}

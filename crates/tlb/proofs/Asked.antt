@@ -1,0 +1,91 @@
+-- What a walk of the slots asks of one slot: the owner, the page against a prepared table, then bit 63. Assumes nothing.
+use Prim.Native.Nat.{ℕ, _*_, _/_, _^_, _≤_, _<_, max}
+use mathlib.Core.Path.{_≡_, refl, ap, sym, _∙_}
+use mathlib.Core.Bool.{true, false, _&&_}
+use mathlib.Core.List.{List}
+use native.Mathlib.Omega.{arith}
+use native.Mathlib.Nat.{div-lt-iff-lt-mul, le-trans, le-max-left, le-max-right, max-eq-left}
+use lib.Dec.{eqb}
+use lib.Pow.{pow-pos}
+use lib.Bits.{bitXor, and-le-l, and-le-r, xor-add-and, xor-self, xor-shr}
+use lib.ListN.{getD, set, replicate, getD-replicate}
+use lib.Seq.{getD-set-other}
+use borrow.Author.Tests.{eqb-true, eqb-false, eq-eqb, ne-eqb}
+use Rattle.laws.proofs.Bools.{by-test, and-no}
+use Rattle.machine.specs.declared.Slot.{Slot}
+use Rattle.machine.specs.Pages.{pageShift, pageSize, pageStart}
+use Rattle.machine.proofs.Pages.{start-block}
+use Rattle.machine.specs.Slots.{isLive, sizeCode, holds}
+use Rattle.machine.specs.Insertion.{overlaps}
+use Rattle.tlb.specs.Tables.{byCode, startsOf, spansOf, answersAt}
+
+-- a table at a size code
+by-code : (other : ℕ) (f : ℕ → ℕ) (code : ℕ) → other ≡ f 0 → code < 16 → getD (byCode other f) code 0 ≡ f (pageShift code)
+unfolding pageShift
+by-code other f code z h =
+    let l0 : List ℕ = set (replicate 16 other) 0 (f 13) in
+    let l1 : List ℕ = set l0 1 (f 16) in
+    let l3 : List ℕ = set l1 3 (f 22) in
+    by-test (eqb code 5)
+    (λ e5. rw (eqb-true code 5 e5))
+    (λ e5. getD-set-other l3 5 code (f 28) 0 (eqb-false code 5 e5) ∙ by-test (eqb code 3)
+    (λ e3. rw (eqb-true code 3 e3))
+    (λ e3. getD-set-other l1 3 code (f 22) 0 (eqb-false code 3 e3) ∙ by-test (eqb code 1)
+    (λ e1. rw (eqb-true code 1 e1))
+    (λ e1. getD-set-other l0 1 code (f 16) 0 (eqb-false code 1 e1) ∙ by-test (eqb code 0)
+    (λ e0. rw (eqb-true code 0 e0))
+    (λ e0. getD-set-other (replicate 16 other) 0 code (f 13) 0 (eqb-false code 0 e0) ∙ getD-replicate 16 code other 0 h ∙ rw (e0, e1, e3, e5) z))))
+
+start-at : (a code : ℕ) → code < 16 → getD (startsOf a) code 0 ≡ pageStart code a
+unfolding startsOf
+start-at a code h = by-code a (λ k. a / 2 ^ k * 2 ^ k) code (omega arith) h
+
+span-at : (x code : ℕ) → code < 16 → getD (spansOf (pageSize x)) code 0 ≡ max (pageSize x) (pageSize code)
+unfolding spansOf
+span-at x code h = by-code (pageSize x) (λ k. max (pageSize x) (2 ^ k)) code (sym (max-eq-left (pow-pos (pageShift x)))) h
+
+-- the page of x against the prepared starts
+page-asked : (x : Slot) (a : ℕ) → holds x a ≡ eqb (getD (startsOf a) (sizeCode x) 0) (x .page)
+page-asked x a = ap (λ (n : ℕ). eqb n (x .page)) (sym (start-at a (sizeCode x) (omega arith)))
+
+-- ---- a search of an owner's slots for an address
+module _ (owner address : ℕ) (x : Slot) where
+  pub asked-owner : (x .owner ≡ owner → ⊥) → answersAt owner address x ≡ false
+  unfolding answersAt
+  asked-owner h = rw (ne-eqb (x .owner) owner h) (and-no (isLive x))
+
+  pub asked-page : (x .page ≡ getD (startsOf address) (sizeCode x) 0 → ⊥) → answersAt owner address x ≡ false
+  unfolding answersAt
+  asked-page h = rw (page-asked x address ∙ ne-eqb _ (x .page) (λ e. h (sym e)), and-no (eqb (x .owner) owner)) (and-no (isLive x))
+
+  pub asked-live : (x .word / 2 ^ 63 ≡ 1 → ⊥) → answersAt owner address x ≡ false
+  unfolding answersAt
+  asked-live h = rw (ne-eqb (x .word / 2 ^ 63) 1 h)
+
+  pub asked-all : x .owner ≡ owner → x .page ≡ getD (startsOf address) (sizeCode x) 0 → x .word / 2 ^ 63 ≡ 1 → answersAt owner address x ≡ true
+  unfolding answersAt
+  asked-all o p v = rw (eq-eqb (x .word / 2 ^ 63) 1 v, eq-eqb (x .owner) owner o) (page-asked x address ∙ eq-eqb _ (x .page) (sym p))
+
+-- ---- whether x overlaps y
+xor-zero : (a b : ℕ) → bitXor a b ≡ 0 → a ≡ b
+xor-zero a b h = omega (arith, xor-add-and a b, and-le-l a b, and-le-r a b)
+
+-- numbers of one block of 2 ^ k have a xor below 2 ^ k
+near : (a b k : ℕ) → a / 2 ^ k ≡ b / 2 ^ k → bitXor a b < 2 ^ k
+near a b k e =
+    let z : bitXor a b / 2 ^ k ≡ 0 = xor-shr a b k ∙ ap (λ (n : ℕ). bitXor n (b / 2 ^ k)) e ∙ xor-self (b / 2 ^ k) in
+    let p : bitXor a b < 1 * 2 ^ k = div-lt-iff-lt-mul {y = 1} (pow-pos k) .0 (omega arith) in
+    omega arith
+
+-- starts whose xor is the larger page size or more lie in no common page
+pub over-far : (x y : Slot) → getD (spansOf (pageSize (sizeCode x))) (sizeCode y) 0 ≤ bitXor (x .page) (y .page) → overlaps x y ≡ false
+unfolding overlaps
+over-far x y h =
+    let m : max (pageSize (sizeCode x)) (pageSize (sizeCode y)) ≤ bitXor (x .page) (y .page) = rw (span-at (sizeCode x) (sizeCode y) (omega arith)) at h in
+    let p : holds x (y .page) ≡ false =
+    ne-eqb _ _ (λ (e : pageStart (sizeCode x) (y .page) ≡ x .page).
+    omega (arith, le-trans (le-max-left _ _) m, near (x .page) (y .page) (pageShift (sizeCode x)) (start-block (sizeCode x) (x .page) (y .page) e))) in
+    let q : holds y (x .page) ≡ false =
+    ne-eqb _ _ (λ (e : pageStart (sizeCode y) (x .page) ≡ y .page).
+    omega (arith, le-trans (le-max-right _ _) m, near (x .page) (y .page) (pageShift (sizeCode y)) (sym (start-block (sizeCode y) (y .page) (x .page) e)))) in
+    rw (p, q, and-no (eqb (x .owner) (y .owner)), and-no (isLive y)) (and-no (isLive x))

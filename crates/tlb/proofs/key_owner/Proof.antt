@@ -1,0 +1,35 @@
+-- `tlb::key_owner` meets its contract.
+use mathlib.Core.Path.{_∙_, sym, ap}
+use Rattle.machine.specs.Slots.{keyOwner}
+use borrow.Author.Needs.{needs}
+use Rattle.tlb.proofs.key_owner.Statement.{statement}
+use Rattle.tlb.proofs.key_owner.Tie as tie
+
+enum-known-key : tie.Need-enum-known-key
+enum-known-key c = search needs
+
+owner-word-requires : tie.Need-owner-word-requires
+owner-word-requires c κs = search needs
+
+enum-known-key-2 : tie.Need-enum-known-key-2
+enum-known-key-2 c = search needs
+
+owner-word-requires-2 : tie.Need-owner-word-requires-2
+owner-word-requires-2 c κs = search needs
+
+returns : tie.Need-returns
+returns c = c .owner-word .ensures ∙ ap keyOwner (sym (c .before .before .key .given .1))
+
+returns-2 : tie.Need-returns-2
+returns-2 c = c .owner-word2 .ensures ∙ ap keyOwner (sym (c .before .before .key2 .given .1))
+
+pub key-owner-spec : {M : Type 1} → statement M
+key-owner-spec =
+    tie.close
+    (tie.spec
+    enum-known-key
+    owner-word-requires
+    enum-known-key-2
+    owner-word-requires-2
+    returns
+    returns-2)

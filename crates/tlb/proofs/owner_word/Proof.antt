@@ -1,0 +1,24 @@
+-- `tlb::owner_word` meets its contract.
+use borrow.Author.Needs.{needs}
+use native.Mathlib.Omega.{arith}
+use borrow.Author.Needs.{needs}
+use Rattle.tlb.proofs.owner_word.Statement.{statement}
+use Rattle.tlb.proofs.owner_word.Tie as tie
+
+mul-owner : tie.Need-mul-owner
+mul-owner c = search needs
+
+add-owner : tie.Need-add-owner
+add-owner c = search needs
+
+add-result : tie.Need-add-result
+add-result c = search needs
+
+returns : tie.Need-returns
+returns c = rw (c .if1 .taken) (omega arith)
+
+returns-2 : tie.Need-returns-2
+returns-2 c = rw (c .if1 .left) (omega arith)
+
+pub owner-word-spec : {M : Type 1} → statement M
+owner-word-spec = tie.close (tie.spec mul-owner add-owner add-result returns returns-2)

@@ -1,0 +1,26 @@
+-- What the code asks in place of `answersTo` and `overlaps`: numbers, and tables of them by size code. None of this is in a promise of `search`
+-- or `overlaps_none`.
+-- Assumes nothing.
+use Prim.Native.Nat.{ℕ, _*_, _/_, _^_, max}
+use mathlib.Core.List.{List}
+use mathlib.Core.Bool.{Bool, _&&_}
+use lib.Dec.{eqb}
+use lib.ListN.{set, replicate}
+use Rattle.machine.specs.Slots.{isLive, holds}
+use Rattle.machine.specs.declared.Slot.{Slot}
+
+-- f of the page shift at a listed size code, and another number at the others
+abbrev pub byCode : ℕ → (ℕ → ℕ) → List ℕ
+byCode other f = set (set (set (set (replicate 16 other) 0 (f 13)) 1 (f 16)) 3 (f 22)) 5 (f 28)
+
+-- an address rounded down
+unfoldable pub startsOf : ℕ → List ℕ
+startsOf a = byCode a (λ k. a / 2 ^ k * 2 ^ k)
+
+-- the larger of two page sizes
+unfoldable pub spansOf : ℕ → List ℕ
+spansOf size = byCode size (λ k. max size (2 ^ k))
+
+-- a live slot of the owner whose page holds the address
+unfoldable pub answersAt : ℕ → ℕ → Slot → Bool
+answersAt owner address x = isLive x && (eqb (x .owner) owner && holds x address)

@@ -1,0 +1,229 @@
+// The slots of one side of a TLB as lent words, four a slot, any number of them: read, store, search, used bits, overlap.
+ghost use mathlib.Core.Path.{_≡_};
+ghost use mathlib.Core.Bool.{not};
+ghost use Prim.Native.Nat.{_+_, _*_, _<_, _≤_, _%_, max};
+ghost use lib.ListN.{length, drop};
+ghost use Rattle.laws.specs.Tests.{anyOf, first};
+ghost use Rattle.machine.specs.Slots.{slotsOf, wordsOf, slotOf, withSlot, onSlot, ownerWord, keyOwner, keyAddress, isLive, pageMatch, search, withUsed, clearUsed};
+ghost use Rattle.machine.specs.Insertion.{overlaps};
+ghost use Rattle.tlb.specs.Tables.{startsOf, spansOf, answersAt};
+use laws::Found;
+use machine::Key;
+use machine::PageMatch;
+use machine::Slot;
+
+// Slot i, its words as they are.
+pub fn slot_at(slots: &[u64], i: usize) -> Slot
+    requires { ⌜ i * 4 + 4 ≤ length (now slots) ⌝ }
+    ensures { λ r. ⌜ r ≡ slotOf (now (slots .entry)) i ⌝ }
+{
+    let k = i * 4;
+    Slot {
+        owner: slots[k],
+        page: slots[k + 1],
+        word: slots[k + 2],
+        flags: slots[k + 3],
+    }
+}
+
+pub fn store_slot(slots: &mut [u64], i: usize, x: Slot)
+    requires { ⌜ i * 4 + 4 ≤ length (now slots) ⌝ }
+    ensures { λ r. ⌜ now (slots .exit) ≡ withSlot (now (slots .entry)) i x ⌝ }
+{
+    let k = i * 4;
+    slots[k] = x.owner;
+    slots[k + 1] = x.page;
+    slots[k + 2] = x.word;
+    slots[k + 3] = x.flags;
+}
+
+// Partition, real bit and context as a slot holds them.
+pub fn owner_word(partition: u64, real: bool, context: u64) -> u64
+    ensures { λ r. ⌜ r ≡ ownerWord partition real context ⌝ }
+{
+    let owner = partition % 8 * 0x4000 + context % 0x2000;
+    if real {
+        return owner + 0x2000;
+    }
+    owner
+}
+
+pub fn key_owner(key: Key) -> u64
+    ensures { λ r. ⌜ r ≡ keyOwner key ⌝ }
+{
+    match key {
+        Key::Virtual {
+            partition,
+            context,
+            address: _,
+        } => owner_word(partition, false, context),
+        Key::Real {
+            partition,
+            address: _,
+        } => owner_word(partition, true, 0),
+    }
+}
+
+// The only place where a virtual and a real address become the same kind of number: a slot's page is one or the other by its owner.
+pub fn key_address(key: Key) -> u64
+    ensures { λ r. ⌜ r ≡ keyAddress key ⌝ }
+{
+    match key {
+        Key::Virtual {
+            partition: _,
+            context: _,
+            address,
+        } => address.0,
+        Key::Real {
+            partition: _,
+            address,
+        } => address.0,
+    }
+}
+
+// An address against a slot's page.
+pub fn match_page(x: Slot, address: u64) -> PageMatch
+    ensures { λ r. ⌜ r ≡ pageMatch x address ⌝ }
+{
+    let code = x.word % 16;
+    if pages::page_start(code, address) != x.page {
+        return PageMatch::Outside;
+    }
+    PageMatch::Within {
+        code: code,
+        offset: pages::page_offset(code, address),
+    }
+}
+
+// Where a page that holds the address starts, by size code.
+fn starts(address: u64) -> [u64; 16]
+    ensures { λ r. ⌜ r ≡ startsOf address ⌝ }
+{
+    let mut start = [address; 16];
+    start[0] = address / 0x2000 * 0x2000;
+    start[1] = address / 0x1_0000 * 0x1_0000;
+    start[3] = address / 0x40_0000 * 0x40_0000;
+    start[5] = address / 0x1000_0000 * 0x1000_0000;
+    start
+}
+
+// The lowest live slot of the owner whose page holds the address.
+fn search_owner(slots: &[u64], owner: u64, address: u64) -> Found
+    ensures { λ r. ⌜ r ≡ first (answersAt owner address) (slotsOf (now (slots .entry))) ⌝ }
+{
+    let start = starts(address);
+    let n = slots.len() / 4;
+    let mut i = 0;
+    while i < n {
+        let k = i * 4;
+        if slots[k] == owner {
+            let word = slots[k + 2];
+            let code = (word % 16) as usize;
+            if slots[k + 1] == start[code] {
+                // an empty slot looks like owner 0, page 0
+                if word >> 63 == 1 {
+                    return Found::At(i);
+                }
+            }
+        }
+        i += 1;
+    }
+    Found::Nothing
+}
+
+// The lowest live slot that answers to the key.
+pub fn search(slots: &[u64], key: Key) -> Found
+    ensures { λ r. ⌜ r ≡ search key (slotsOf (now (slots .entry))) ⌝ }
+{
+    search_owner(slots, key_owner(key), key_address(key))
+}
+
+// Sets the used bit of slot i.
+pub fn set_used(slots: &mut [u64], i: usize)
+    requires { ⌜ i * 4 + 4 ≤ length (now slots) ⌝ }
+    ensures { λ r. ⌜ now (slots .exit) ≡ onSlot withUsed i (now (slots .entry)) ⌝ }
+{
+    let k = i * 4 + 3;
+    slots[k] = slots[k] % 2 + 2;
+}
+
+// Clears every used bit.
+pub fn clear_used(slots: &mut [u64])
+    requires { ⌜ length (now slots) % 4 ≡ 0 ⌝ }
+    ensures { λ r. ⌜ now (slots .exit) ≡ wordsOf (clearUsed (slotsOf (now (slots .entry)))) ⌝ }
+{
+    let n = slots.len() / 4;
+    let mut i = 0;
+    while i < n {
+        let k = i * 4 + 3;
+        slots[k] = slots[k] % 2;
+        i += 1;
+    }
+}
+
+// Bit 63 of the word.
+pub fn is_live(x: Slot) -> bool
+    ensures { λ r. ⌜ r ≡ isLive x ⌝ }
+{
+    x.word >> 63 == 1
+}
+
+// Whether one page holds the other's start, for two live entries of one owner.
+pub fn overlap(x: Slot, y: Slot) -> bool
+    ensures { λ r. ⌜ r ≡ overlaps x y ⌝ }
+{
+    if !is_live(x) {
+        return false;
+    }
+    if !is_live(y) {
+        return false;
+    }
+    if x.owner != y.owner {
+        return false;
+    }
+    if pages::page_start(x.word % 16, y.page) == x.page {
+        return true;
+    }
+    pages::page_start(y.word % 16, x.page) == y.page
+}
+
+fn larger(a: u64, b: u64) -> u64
+    ensures { λ r. ⌜ r ≡ max a b ⌝ }
+{
+    if a < b { b } else { a }
+}
+
+// The larger of the size and each page size, by size code.
+fn spans(size: u64) -> [u64; 16]
+    ensures { λ r. ⌜ r ≡ spansOf size ⌝ }
+{
+    let mut span = [size; 16];
+    span[0] = larger(size, 0x2000);
+    span[1] = larger(size, 0x1_0000);
+    span[3] = larger(size, 0x40_0000);
+    span[5] = larger(size, 0x1000_0000);
+    span
+}
+
+// Whether x overlaps none of the slots from the one given on.
+pub fn overlaps_none(slots: &[u64], x: Slot, from: usize) -> bool
+    ensures { λ r. ⌜ r ≡ not (anyOf (overlaps x) (drop from (slotsOf (now (slots .entry))))) ⌝ }
+{
+    let span = spans(pages::page_size(x.word % 16));
+    let n = slots.len() / 4;
+    let mut j = from;
+    while j < n {
+        let k = j * 4;
+        let code = (slots[k + 2] % 16) as usize;
+        let distance = x.page ^ slots[k + 1];
+        // starts whose xor is the larger page size or more lie in no common page
+        if distance < span[code] {
+            let y = slot_at(slots, j);
+            if overlap(x, y) {
+                return false;
+            }
+        }
+        j += 1;
+    }
+    true
+}

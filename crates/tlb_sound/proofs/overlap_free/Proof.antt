@@ -1,0 +1,181 @@
+-- `tlb_sound::overlap_free` meets its contract. The invariant: no two of the slots from i on overlap, and a bucket that is not marked
+-- holds none of them.
+use Prim.Native.Nat.{ℕ, _≤_, _<_, _-_, _+_, _/_}
+use mathlib.Core.Path.{_≡_, sym, ap, _∙_}
+use mathlib.Core.Bool.{true, false}
+use native.Mathlib.Omega.{arith}
+use borrow.Author.Needs.{needs}
+use borrow.Author.Tests.{ne-eqb, not-true, not-false}
+use lib.ListN.{length, drop, getD, replicate, length-set, length-replicate}
+use Rattle.laws.specs.Tests.{anyOf, pairwise}
+use Rattle.laws.proofs.Bools.{denies-true, denies-false}
+use Rattle.laws.proofs.Walks.{pair-fail, pair-pass, pair-end, pair-drop}
+use Rattle.machine.specs.Slots.{slotsOf, noSlot, isLive}
+use Rattle.machine.specs.Insertion.{overlaps}
+use Rattle.machine.proofs.Slots.{slots-length}
+use Rattle.tlb_sound.specs.Buckets.{bucketOf, inBucket}
+use Rattle.tlb_sound.proofs.Buckets.{Wide, block-wide, block-small, empty-overlaps, bucket-small, Marked, none-marked, mark-empty, mark-live, alone}
+use Rattle.tlb_sound.proofs.overlap_free.Statement.{statement}
+use Rattle.tlb_sound.proofs.overlap_free.Tie as tie
+
+abbrev Inv-loop : tie.InvT-loop
+Inv-loop slots most seen₀ i₀ seen i =
+    (i ≤ length slots / 4) × (length seen ≡ 1024) × (pairwise overlaps (drop i (slotsOf slots)) ≡ true) × Marked most seen (drop i (slotsOf slots))
+
+abbrev μ-loop : tie.MeasureT-loop
+μ-loop slots most seen₀ i₀ seen i = i
+
+code-bound-requires : tie.Need-code-bound-requires Inv-loop μ-loop
+code-bound-requires c κs = search needs
+
+block-shift-requires : tie.Need-block-shift-requires Inv-loop μ-loop
+block-shift-requires c κs = search needs
+
+loop-holds : tie.Need-loop-holds Inv-loop μ-loop
+loop-holds c =
+    let l = c .before .before .before .args .slots .now in
+    let n : ℕ = length l / 4 in (
+      omega arith,
+      length-replicate 1024 false,
+      pair-end noSlot (slotsOf l) n overlaps (omega (arith, slots-length l)),
+      none-marked (c .block-shift .result) (replicate 1024 false) (slotsOf l) n (omega (arith, slots-length l)),
+    )
+
+sub-i : tie.Need-sub-i Inv-loop μ-loop
+sub-i c = omega arith
+
+slot-at-requires : tie.Need-slot-at-requires Inv-loop μ-loop
+slot-at-requires c κs = omega arith
+
+-- ---- what a turn knows, of the slot j = i - 1 that it reads
+within : (c : tie.After-slot-at Inv-loop μ-loop) →
+    let at = c .before .before in
+    at .loop .i - 1 < length (slotsOf (at .before .before .before .before .args .slots .now))
+within c = omega (arith, c .before .loop-test .taken, c .before .before .loop .inv .0, slots-length (c .before .before .before .before .before .before .args .slots .now))
+
+back : (c : tie.After-slot-at Inv-loop μ-loop) → let at = c .before .before in at .loop .i ≡ at .loop .i - 1 + 1
+back c = omega (arith, c .before .loop-test .taken)
+
+rest : (c : tie.After-slot-at Inv-loop μ-loop) →
+    let at = c .before .before in
+    pairwise overlaps (drop (at .loop .i - 1 + 1) (slotsOf (at .before .before .before .before .args .slots .now))) ≡ true
+rest c =
+    let at = c .before .before in
+    let s = slotsOf (at .before .before .before .before .args .slots .now) in
+    ap (λ n. pairwise overlaps (drop n s)) (sym (back c)) ∙ at .loop .inv .2
+
+later : (c : tie.After-slot-at Inv-loop μ-loop) →
+    let at = c .before .before in
+    Marked (at .before .block-shift .result) (at .loop .seen) (drop (at .loop .i - 1 + 1) (slotsOf (at .before .before .before .before .args .slots .now)))
+later c b e =
+    let at = c .before .before in
+    let s = slotsOf (at .before .before .before .before .args .slots .now) in
+    ap (λ n. anyOf (inBucket (at .before .block-shift .result) b) (drop n s)) (sym (back c)) ∙ at .loop .inv .3 b e
+
+bucket-requires : tie.Need-bucket-requires Inv-loop μ-loop
+bucket-requires c κs =
+    let big = c .before .before .before .before .before in
+    omega (arith, big .block-shift .ensures, block-small (big .before .code-bound .result))
+
+add-shared-overlaps-none : tie.Need-add-shared-overlaps-none Inv-loop μ-loop
+add-shared-overlaps-none c = omega arith
+
+array-read-shared-overlaps-none : tie.Need-array-read-shared-overlaps-none Inv-loop μ-loop
+array-read-shared-overlaps-none c = rw (c .bucket .ensures) (bucket-small _ _ _)
+
+shared-overlaps-none-requires : tie.Need-shared-overlaps-none-requires Inv-loop μ-loop
+shared-overlaps-none-requires c κs e =
+    let t = c .before .before .before in
+    let at = t .before .before in
+    let code = at .before .before .code-bound in
+    let most = at .before .block-shift .result in
+    let wide : Wide (code .result) most = λ n h. rw (at .before .block-shift .ensures) (block-wide (code .result) n h) in
+    let s = slotsOf (at .before .before .before .before .args .slots .now) in
+    let j = at .loop .i - 1 in
+    let is = t .slot-at .ensures in
+    let b : c .bucket .result ≡ bucketOf most (getD s j noSlot .owner) (getD s j noSlot .page) =
+    c .bucket .ensures ∙ ap (λ x. bucketOf most (x .owner) (x .page)) is in
+    ap (λ x. anyOf (overlaps x) (drop (j + 1) s)) is
+    ∙ alone most (at .loop .seen) s j (within t) (later t) (code .result) wide (code .ensures) (ap (λ n. getD (at .loop .seen) n false) (sym b) ∙ e)
+
+returns : tie.Need-returns Inv-loop μ-loop
+returns c =
+    let t = c .before .before .before .before .before in
+    let at = t .before .before in
+    let s = slotsOf (at .before .before .before .before .args .slots .now) in
+    let j = at .loop .i - 1 in
+    let m : anyOf (overlaps (getD s j noSlot)) (drop (j + 1) s) ≡ true =
+    ap (λ x. anyOf (overlaps x) (drop (j + 1) s)) (sym (t .slot-at .ensures)) ∙ denies-false (c .before .shared-overlaps-none .ensures) (not-true _ (c .if2 .taken)) in
+    sym (pair-drop overlaps s j (pair-fail noSlot s j overlaps (within t) m))
+
+array-write-seen : tie.Need-array-write-seen Inv-loop μ-loop
+array-write-seen c = rw (c .before .before .bucket .ensures) (bucket-small _ _ _)
+
+loop-less : tie.Need-loop-less Inv-loop μ-loop
+loop-less c = omega arith
+
+loop-again : tie.Need-loop-again Inv-loop μ-loop
+loop-again c =
+    let r = c .before .before in
+    let t = r .before .before .before in
+    let at = t .before .before in
+    let most = at .before .block-shift .result in
+    let s = slotsOf (at .before .before .before .before .args .slots .now) in
+    let j = at .loop .i - 1 in
+    let is = t .slot-at .ensures in
+    let m : anyOf (overlaps (getD s j noSlot)) (drop (j + 1) s) ≡ false =
+    ap (λ x. anyOf (overlaps x) (drop (j + 1) s)) (sym is) ∙ denies-true (c .before .shared-overlaps-none .ensures) (not-false _ (c .if2 .left)) in
+    let b : r .bucket .result ≡ bucketOf most (getD s j noSlot .owner) (getD s j noSlot .page) =
+    r .bucket .ensures ∙ ap (λ x. bucketOf most (x .owner) (x .page)) is in
+    let small : r .bucket .result < length (at .loop .seen) = rw (at .loop .inv .1, b) (bucket-small _ _ _) in (
+      omega (arith, at .loop .inv .0),
+      simp length-set (at .loop .inv .1),
+      pair-pass noSlot s j overlaps (within t) m ∙ rest t,
+      mark-live most (at .loop .seen) s j (within t) (later t) _ b small,
+    )
+
+loop-less-2 : tie.Need-loop-less-2 Inv-loop μ-loop
+loop-less-2 c = omega arith
+
+loop-again-2 : tie.Need-loop-again-2 Inv-loop μ-loop
+loop-again-2 c =
+    let t = c .before .before in
+    let at = t .before .before in
+    let s = slotsOf (at .before .before .before .before .args .slots .now) in
+    let j = at .loop .i - 1 in
+    let dead : isLive (getD s j noSlot) ≡ false = ap isLive (sym (t .slot-at .ensures)) ∙ ne-eqb _ _ (c .if1 .left) in (
+      omega (arith, at .loop .inv .0),
+      at .loop .inv .1,
+      pair-pass noSlot s j overlaps (within t) (empty-overlaps (getD s j noSlot) (drop (j + 1) s) dead) ∙ rest t,
+      mark-empty _ (at .loop .seen) s j (within t) (later t) dead,
+    )
+
+returns-2 : tie.Need-returns-2 Inv-loop μ-loop
+returns-2 c =
+    let at = c .before in
+    let s = slotsOf (at .before .before .before .before .args .slots .now) in
+    let z : at .loop .i ≡ 0 = omega arith in
+    sym (ap (λ n. pairwise overlaps (drop n s)) (sym z) ∙ at .loop .inv .2)
+
+pub overlap-free-spec : {M : Type 1} → statement M
+overlap-free-spec =
+    tie.close
+    (tie.spec
+    Inv-loop
+    μ-loop
+    code-bound-requires
+    block-shift-requires
+    loop-holds
+    sub-i
+    slot-at-requires
+    bucket-requires
+    add-shared-overlaps-none
+    array-read-shared-overlaps-none
+    shared-overlaps-none-requires
+    returns
+    array-write-seen
+    loop-less
+    loop-again
+    loop-less-2
+    loop-again-2
+    returns-2)

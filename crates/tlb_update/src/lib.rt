@@ -1,0 +1,239 @@
+// Removal and insertion on the slots of one side: document 01, "Insertion and removal". Any number of slots.
+ghost use mathlib.Core.Path.{_≡_};
+ghost use mathlib.Core.Bool.{not, _&&_};
+ghost use lib.Dec.{eqb};
+ghost use Prim.Native.Nat.{_+_, _*_, _≤_, _%_};
+ghost use lib.ListN.{length};
+ghost use Rattle.laws.specs.Tests.{tick, count, first};
+ghost use Rattle.machine.specs.Slots.{slotsOf, wordsOf, slotOf, withSlot, onSlot, isLive, partitionOf, isLocked, answersTo};
+ghost use Rattle.machine.specs.Insertion.{overlaps, emptiedBy, removed, removes, entryOf, candidate, wants, choice, stored, displacedBy, inserted, placed, hasSlot};
+use laws::Found;
+use machine::Choice;
+use machine::Key;
+use machine::Placed;
+use machine::Removal;
+use machine::Slot;
+use machine::Wanted;
+
+// A live slot of the owner.
+fn owned_by(x: Slot, owner: u64) -> bool
+    ensures { λ r. ⌜ r ≡ (isLive x && eqb (x .owner) owner) ⌝ }
+{
+    if !tlb::is_live(x) {
+        return false;
+    }
+    x.owner == owner
+}
+
+// The entry that answers to a key.
+fn answers(x: Slot, key: Key) -> bool
+    ensures { λ r. ⌜ r ≡ answersTo key x ⌝ }
+{
+    if !owned_by(x, tlb::key_owner(key)) {
+        return false;
+    }
+    pages::page_start(x.word % 16, tlb::key_address(key)) == x.page
+}
+
+// A partition's unlocked entry.
+fn unlocked_of(x: Slot, partition: u64) -> bool
+    ensures { λ r. ⌜ r ≡ (isLive x && (eqb (partitionOf x) partition && not (isLocked x))) ⌝ }
+{
+    if !tlb::is_live(x) {
+        return false;
+    }
+    if x.owner >> 14 != partition {
+        return false;
+    }
+    x.flags % 2 != 1
+}
+
+// Whether a removal takes the slot's entry.
+pub fn takes(which: Removal, x: Slot) -> bool
+    ensures { λ r. ⌜ r ≡ removes which x ⌝ }
+{
+    match which {
+        Removal::Page(key) => answers(x, key),
+        Removal::Context { partition, context } => owned_by(
+            x,
+            tlb::owner_word(partition, false, context),
+        ),
+        Removal::Unlocked { partition } => unlocked_of(x, partition),
+        Removal::Everything => tlb::is_live(x),
+        Removal::Overlapping(new) => tlb::overlap(new, x),
+    }
+}
+
+// Empties slot i where the removal takes it; 1 where it did.
+fn remove_at(slots: &mut [u64], i: usize, which: Removal) -> u64
+    requires { ⌜ i * 4 + 4 ≤ length (now slots) ⌝ }
+    ensures words { λ r. ⌜ now (slots .exit) ≡ onSlot (emptiedBy (removes which)) i (now (slots .entry)) ⌝ }
+    ensures count { λ r. ⌜ r ≡ tick (removes which (slotOf (now (slots .entry)) i)) ⌝ }
+{
+    let x = tlb::slot_at(slots, i);
+    if takes(which, x) {
+        let none = Slot {
+            owner: 0,
+            page: 0,
+            word: 0,
+            flags: 0,
+        };
+        tlb::store_slot(slots, i, none);
+        return 1;
+    }
+    0
+}
+
+// Empties every slot that the removal takes, and counts them.
+pub fn remove(slots: &mut [u64], which: Removal) -> u64
+    requires { ⌜ length (now slots) % 4 ≡ 0 ⌝ }
+    ensures words { λ r. ⌜ now (slots .exit) ≡ wordsOf (removed (removes which) (slotsOf (now (slots .entry)))) ⌝ }
+    ensures count { λ r. ⌜ r ≡ count (removes which) (slotsOf (now (slots .entry))) ⌝ }
+{
+    let n = slots.len() / 4;
+    let mut taken = 0;
+    let mut i = 0;
+    while i < n {
+        taken += remove_at(slots, i, which);
+        i += 1;
+    }
+    taken
+}
+
+// The entry of an insertion: its address rounded down to the word's page, its used bit set.
+pub fn new_entry(key: Key, locked: bool, word: u64) -> Slot
+    ensures { λ r. ⌜ r ≡ entryOf key locked word ⌝ }
+{
+    let lock = if locked { 1 } else { 0 };
+    Slot {
+        owner: tlb::key_owner(key),
+        page: pages::page_start(word % 16, tlb::key_address(key)),
+        word: word,
+        flags: lock + 2,
+    }
+}
+
+// An entry that may be displaced.
+fn displaceable(old: Slot) -> bool
+    ensures { λ r. ⌜ r ≡ candidate old ⌝ }
+{
+    if !tlb::is_live(old) {
+        return false;
+    }
+    old.flags % 2 != 1
+}
+
+// Whether the slot is what a choice looks for.
+pub fn wanted_slot(wanted: Wanted, x: Slot) -> bool
+    ensures { λ r. ⌜ r ≡ wants candidate wanted x ⌝ }
+{
+    match wanted {
+        Wanted::Empty => !tlb::is_live(x),
+        Wanted::Unused => {
+            if !displaceable(x) {
+                return false;
+            }
+            (x.flags >> 1) % 2 != 1
+        }
+        Wanted::Candidate => displaceable(x),
+    }
+}
+
+// The lowest slot that is wanted.
+pub fn lowest(slots: &[u64], wanted: Wanted) -> Found
+    ensures { λ r. ⌜ r ≡ first (wants candidate wanted) (slotsOf (now (slots .entry))) ⌝ }
+{
+    let n = slots.len() / 4;
+    let mut i = 0;
+    let found = loop {
+        if i == n {
+            break Found::Nothing;
+        }
+        let x = tlb::slot_at(slots, i);
+        if wanted_slot(wanted, x) {
+            break Found::At(i);
+        }
+        i += 1;
+    };
+    found
+}
+
+// The slot that an insertion takes.
+pub fn choose(slots: &[u64]) -> Choice
+    ensures { λ r. ⌜ r ≡ choice candidate (slotsOf (now (slots .entry))) ⌝ }
+{
+    if let Found::At(slot) = lowest(slots, Wanted::Empty) {
+        return Choice::Empty(slot);
+    }
+    if let Found::At(slot) = lowest(slots, Wanted::Unused) {
+        return Choice::Unused(slot);
+    }
+    let Found::At(slot) = lowest(slots, Wanted::Candidate) else {
+        return Choice::Full;
+    };
+    Choice::Cleared(slot)
+}
+
+// Whether a slot is to be had for the new entry (number 13). Nothing changes.
+pub fn has_slot(slots: &[u64], new: Slot) -> bool
+    ensures { λ r. ⌜ r ≡ hasSlot candidate new (slotsOf (now (slots .entry))) ⌝ }
+{
+    let Choice::Full = choose(slots) else {
+        return true;
+    };
+    !tlb::overlaps_none(slots, new, 0)
+}
+
+// Puts the new entry into slot i, and hands back what stood there.
+fn displace(slots: &mut [u64], i: usize, new: Slot) -> Slot
+    requires { ⌜ i * 4 + 4 ≤ length (now slots) ⌝ }
+    ensures words { λ r. ⌜ now (slots .exit) ≡ withSlot (now (slots .entry)) i new ⌝ }
+    ensures old { λ r. ⌜ r ≡ slotOf (now (slots .entry)) i ⌝ }
+{
+    let old = tlb::slot_at(slots, i);
+    tlb::store_slot(slots, i, new);
+    old
+}
+
+// Puts the new entry into the slot chosen.
+fn place(slots: &mut [u64], new: Slot, chosen: Choice) -> Placed
+    requires { ⌜ (length (now slots) % 4 ≡ 0) × (chosen ≡ choice candidate (slotsOf (now slots))) ⌝ }
+    ensures words { λ r. ⌜ now (slots .exit) ≡ wordsOf (stored new (slotsOf (now (slots .entry))) chosen) ⌝ }
+    ensures placed { λ r. ⌜ r ≡ displacedBy (slotsOf (now (slots .entry))) chosen ⌝ }
+{
+    match chosen {
+        Choice::Empty(i) => {
+            tlb::store_slot(slots, i, new);
+            Placed::Done
+        }
+        Choice::Unused(i) => Placed::Displaced(displace(slots, i, new)),
+        Choice::Cleared(i) => {
+            let old = tlb::slot_at(slots, i);
+            tlb::clear_used(slots);
+            tlb::store_slot(slots, i, new);
+            Placed::Displaced(old)
+        }
+        Choice::Full => Placed::Refused,
+    }
+}
+
+// Removes what the new entry overlaps. Most insertions overlap nothing, and the test is faster than the removal.
+fn make_way(slots: &mut [u64], new: Slot)
+    requires { ⌜ length (now slots) % 4 ≡ 0 ⌝ }
+    ensures { λ r. ⌜ now (slots .exit) ≡ wordsOf (removed (overlaps new) (slotsOf (now (slots .entry)))) ⌝ }
+{
+    if !tlb::overlaps_none(slots, new, 0) {
+        remove(slots, Removal::Overlapping(new));
+    }
+}
+
+// Removes what the new entry overlaps, and puts it into the slot that is then chosen.
+pub fn insert(slots: &mut [u64], new: Slot) -> Placed
+    requires { ⌜ length (now slots) % 4 ≡ 0 ⌝ }
+    ensures words { λ r. ⌜ now (slots .exit) ≡ wordsOf (inserted candidate new (slotsOf (now (slots .entry)))) ⌝ }
+    ensures placed { λ r. ⌜ r ≡ placed candidate new (slotsOf (now (slots .entry))) ⌝ }
+{
+    make_way(slots, new);
+    let chosen = choose(slots);
+    place(slots, new, chosen)
+}

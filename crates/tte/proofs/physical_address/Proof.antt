@@ -1,0 +1,27 @@
+-- `tte::physical_address` meets its contract.
+use native.Mathlib.Omega.{arith}
+use borrow.Author.Needs.{needs}
+use Rattle.machine.specs.Words.{physicalAt}
+use Rattle.machine.proofs.Words.{physical-block}
+use Rattle.tte.proofs.physical_address.Statement.{statement}
+use Rattle.tte.proofs.physical_address.Tie as tie
+
+page-frame-requires : tie.Need-page-frame-requires
+page-frame-requires c κs = search needs
+
+page-offset-requires : tie.Need-page-offset-requires
+page-offset-requires c κs = search needs
+
+add-address : tie.Need-add-address
+unfolding physicalAt
+add-address c =
+    let s = c .before .before .before .args in
+    rw (c .before .before .page-frame .ensures, c .before .page-offset .ensures) (omega (arith, physical-block (s .word) (s .offset)))
+
+returns : tie.Need-returns
+unfolding physicalAt
+returns c = rw (c .before .before .page-frame .ensures, c .before .page-offset .ensures)
+
+pub physical-address-spec : {M : Type 1} → statement M
+physical-address-spec =
+    tie.close (tie.spec page-frame-requires page-offset-requires add-address returns)

@@ -1,0 +1,79 @@
+// Entry words (sun4v TTEs): document 01, "Addresses and entry words".
+ghost use mathlib.Core.Path.{_≡_};
+ghost use mathlib.Core.Bool.{true};
+ghost use Rattle.machine.specs.Words.{unpacked, packed, fields, wordSound, wordInsertable, frame, physicalAt};
+use machine::PhysicalAddress;
+use machine::Tte;
+
+// All fields of an entry word. Packed again they are the word.
+pub fn unpack(word: u64) -> Tte
+    ensures fields { λ r. ⌜ r ≡ unpacked word ⌝ }
+    ensures again { λ r. ⌜ packed r ≡ word ⌝ }
+{
+    Tte {
+        v: (word >> 63) % 2,
+        nfo: (word >> 62) % 2,
+        soft2: (word >> 56) % 64,
+        address: (word >> 13) % 0x800_0000_0000,
+        ie: (word >> 12) % 2,
+        e: (word >> 11) % 2,
+        cp: (word >> 10) % 2,
+        cv: (word >> 9) % 2,
+        p: (word >> 8) % 2,
+        ep: (word >> 7) % 2,
+        w: (word >> 6) % 2,
+        soft: (word >> 4) % 4,
+        size: word % 16,
+    }
+}
+
+// The entry word of the fields. Where each fits its width, unpacked again they are the fields.
+pub fn pack(t: Tte) -> u64
+    ensures word { λ r. ⌜ r ≡ packed t ⌝ }
+    ensures again { λ r. ⌜ (fields t ≡ true → unpacked r ≡ t) ⌝ }
+{
+    let from_13 = (t.v % 2) << 63
+        | (t.nfo % 2) << 62
+        | (t.soft2 % 64) << 56
+        | (t.address % 0x800_0000_0000) << 13;
+    let from_9 = from_13 | (t.ie % 2) << 12 | (t.e % 2) << 11 | (t.cp % 2) << 10 | (t.cv % 2) << 9;
+    let from_6 = from_9 | (t.p % 2) << 8 | (t.ep % 2) << 7 | (t.w % 2) << 6;
+    from_6 | (t.soft % 4) << 4 | t.size % 16
+}
+
+// A word that a live entry may have: v 1, a listed size, bits 55:40 zero.
+pub fn word_sound(word: u64) -> bool
+    ensures { λ r. ⌜ r ≡ wordSound word ⌝ }
+{
+    if word >> 63 != 1 {
+        return false;
+    }
+    if !pages::code_listed(word % 16) {
+        return false;
+    }
+    (word >> 40) % 0x1_0000 == 0
+}
+
+// A word that an insertion takes.
+pub fn word_insertable(word: u64) -> bool
+    ensures insertable { λ r. ⌜ r ≡ wordInsertable word ⌝ }
+    ensures sound { λ r. ⌜ (r ≡ true → wordSound word ≡ true) ⌝ }
+{
+    word_sound(word)
+}
+
+// Where a word's page starts in physical memory.
+pub fn page_frame(word: u64) -> PhysicalAddress
+    ensures { λ r. ⌜ r ≡ frame word ⌝ }
+{
+    PhysicalAddress(pages::page_start(word % 16, (word >> 13) % 0x800_0000_0000 << 13))
+}
+
+// The physical address of an offset in a word's page.
+pub fn physical_address(word: u64, offset: u64) -> PhysicalAddress
+    ensures { λ r. ⌜ r ≡ physicalAt word offset ⌝ }
+{
+    let start = page_frame(word);
+    let address = start.0 + pages::page_offset(word % 16, offset);
+    PhysicalAddress(address)
+}

@@ -1,0 +1,56 @@
+-- An answer's three words as bytes, and the stores that write them. Assumes nothing.
+use Prim.Native.Nat.{ℕ, _+_, _/_, _%_, _^_, _<_}
+use mathlib.Core.List.{[], _∷_, _++_}
+use mathlib.Core.Path.{_≡_, refl, ap, _∙_}
+use native.Mathlib.Omega.{arith}
+use native.Mathlib.Numerals.{towards-suc}
+use lib.ListN.{set}
+use lib.Seq.{sets}
+use Rattle.laws.proofs.Stores.{sets-append}
+use Rattle.laws.specs.Tests.{tick}
+use Rattle.machine.specs.Access.{trapNumber, trapFault}
+use Rattle.machine.specs.Questions.{refusalNumber}
+use Rattle.machine.specs.Stream.{Bytes, bytes, answerOf, answerBytes}
+use Rattle.machine.specs.declared.Answer.{Answer}
+use Rattle.machine.specs.declared.Answer.the-variants as answer
+use Rattle.wire.specs.Wire.{headOf, fieldsOf}
+use Rattle.wire.specs.declared.Fields.{Fields}
+
+-- the eight stores of a value, as the code has them
+pub value-stores : (l : Bytes) (i v : ℕ) →
+    set (set (set (set (set (set (set (set l i (v / 2 ^ 56 % 256)) (i + 1) (v / 2 ^ 48 % 256)) (i + 2) (v / 2 ^ 40 % 256)) (i + 3) (v / 2 ^ 32 % 256))
+    (i + 4) (v / 2 ^ 24 % 256)) (i + 5) (v / 2 ^ 16 % 256)) (i + 6) (v / 2 ^ 8 % 256)) (i + 7) (v % 256)
+    ≡ sets l i (bytes v)
+value-stores l i v = simp towards-suc
+
+-- two lists are equal where their heads and their tails are
+both : {x y : ℕ} {l m : Bytes} → x ≡ y → l ≡ m → (x ∷ l) ≡ (y ∷ m)
+both e f = rw (e, f)
+
+-- the bytes of a head word: each is a digit of the word to the base 256
+head-bytes : (kind a b c : ℕ) → kind < 256 → bytes (headOf kind a b c) ≡ kind ∷ a % 256 ∷ b % 256 ∷ c % 256 ∷ 0 ∷ 0 ∷ 0 ∷ 0 ∷ []
+head-bytes kind a b c h =
+    both (omega arith) (both (omega arith) (both (omega arith) (both (omega arith)
+    (both (omega arith) (both (omega arith) (both (omega arith) (both (omega arith) refl)))))))
+
+answer-of : (kind a b c v w : ℕ) → kind < 256 → bytes (headOf kind a b c) ++ (bytes v ++ bytes w) ≡ answerOf kind a b c v w
+answer-of kind a b c v w h = ap (λ (t : Bytes). t ++ (bytes v ++ bytes w)) (head-bytes kind a b c h)
+
+-- the bytes of an answer's three words are the answer's
+answer-words : (a : Answer) → bytes (fieldsOf a .head) ++ (bytes (fieldsOf a .first) ++ bytes (fieldsOf a .second)) ≡ answerBytes a
+unfolding answerBytes
+answer-words (answer.Done n) = answer-of 0 0 0 0 n 0 (omega arith)
+answer-words (answer.Physical t) = answer-of 1 (t .attributes) 0 0 (t .address .0) 0 (omega arith)
+answer-words (answer.Trap t) = answer-of 2 (trapNumber (t .trap)) (trapFault (t .trap)) 0 (t .address .0) (t .tag) (omega arith)
+answer-words (answer.Read v w) = answer-of 3 0 0 0 v w (omega arith)
+answer-words (answer.Displaced d) = answer-of 4 0 (d .partition) (tick (d .real)) (d .place) (d .word) (omega arith)
+answer-words (answer.Refused r) = answer-of 5 (refusalNumber r) 0 0 0 0 (omega arith)
+
+-- three words stored one after the other are the answer
+pub answer-stores : (l : Bytes) (at : ℕ) (a : Answer) {x y z : Bytes} {f : Fields} → f ≡ fieldsOf a →
+    x ≡ sets l at (bytes (f .head)) → y ≡ sets x (at + 8) (bytes (f .first)) → z ≡ sets y (at + 16) (bytes (f .second)) →
+    z ≡ sets l at (answerBytes a)
+answer-stores l at a {x} {y} {z} {f} e p q r =
+    let f₀ = fieldsOf a in
+    let k : at + 8 + 8 ≡ at + 16 = omega arith in
+    r ∙ rw (q, p, e, ← (answer-words a), sets-append (bytes (f₀ .head)), sets-append (bytes (f₀ .first)), k)

@@ -1,0 +1,55 @@
+-- `wire::decode_first` meets its contract: by the law of widths.
+-- Assumes nothing.
+use mathlib.Core.Path.{sym, _∙_}
+use native.Mathlib.Omega.{arith}
+use borrow.Author.Tests.{ne-eqb, lt-ltb, le-ltb}
+use borrow.Author.Needs.{needs}
+use Rattle.wire.proofs.Decodes.{Told, decode-shown}
+use Rattle.wire.proofs.decode_first.Statement.{statement}
+use Rattle.wire.proofs.decode_first.Tie as tie
+
+law : (c : tie.After-command-width) → Told (c .before .before .before .args .rest .now) (c .command-width .result)
+law c = decode-shown _ _ (c .command-width .ensures)
+
+shared-slice-read-command-width : tie.Need-shared-slice-read-command-width
+shared-slice-read-command-width c = search needs
+
+command-width-requires : tie.Need-command-width-requires
+command-width-requires c κs = search needs
+
+returns : tie.Need-returns
+returns c = sym (law (c .before) .0 ∙ rw (c .if1 .taken))
+
+returns-2 : tie.Need-returns-2
+returns-2 c = sym (law (c .before .before) .0 ∙ simp (ne-eqb _ _ (c .before .if1 .left), lt-ltb _ _ (c .if2 .taken)))
+
+short-command-requires : tie.Need-short-command-requires
+short-command-requires c κs = let known = c .before .before in (omega (arith, law (known .before) .1 (known .if1 .left)), search needs)
+
+returns-3 : tie.Need-returns-3
+returns-3 c =
+    let whole = c .before .before in
+    sym (law (whole .before .before) .0 ∙
+    simp (ne-eqb _ _ (whole .before .if1 .left), le-ltb _ _ (whole .if2 .left), lt-ltb _ _ (c .before .if3 .taken), c .short-command .ensures))
+
+valued-command-requires : tie.Need-valued-command-requires
+valued-command-requires c κs = search needs
+
+returns-4 : tie.Need-returns-4
+returns-4 c =
+    let whole = c .before .before in
+    sym (law (whole .before .before) .0 ∙
+    simp (ne-eqb _ _ (whole .before .if1 .left), le-ltb _ _ (whole .if2 .left), le-ltb _ _ (c .before .if3 .left), c .valued-command .ensures))
+
+pub decode-first-spec : {M : Type 1} → statement M
+decode-first-spec =
+    tie.close
+    (tie.spec
+    shared-slice-read-command-width
+    command-width-requires
+    returns
+    returns-2
+    short-command-requires
+    returns-3
+    valued-command-requires
+    returns-4)

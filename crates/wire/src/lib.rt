@@ -1,0 +1,261 @@
+// Commands read from bytes and answers written as bytes: document 01, "The stream".
+ghost use mathlib.Core.Path.{_≡_};
+ghost use Prim.Native.Nat.{_+_, _<_, _≤_};
+ghost use lib.ListN.{length};
+ghost use lib.Seq.{sets};
+ghost use Rattle.laws.specs.Tests.{tick};
+ghost use Rattle.machine.specs.Stream.{byte as byteOf, two, four, eight, decodeAt, bytes, answerBytes};
+ghost use Rattle.machine.specs.declared.Answer.the-variants.{Trap as TrapAnswer};
+ghost use Rattle.wire.specs.Wire.{widthOf, shortOf, valuedOf, stopOf, headOf, fieldsOf};
+use machine::Answer;
+use machine::Command;
+use machine::Decoded;
+use machine::Trapped;
+use machine::VirtualAddress;
+
+// ---- commands
+
+fn wide(x: u8) -> u64
+    ensures value { λ r. ⌜ r ≡ x ⌝ }
+    ensures small { λ r. ⌜ r < 256 ⌝ }
+{
+    x as u64
+}
+
+// Two, four and eight bytes from a position, big-endian.
+fn two_bytes(s: &[u8], at: usize) -> u64
+    requires { ⌜ at + 2 ≤ length (now s) ⌝ }
+    ensures value { λ r. ⌜ r ≡ two (now (s .entry)) at ⌝ }
+    ensures small { λ r. ⌜ r < 65536 ⌝ }
+{
+    wide(s[at]) * 256 + wide(s[at + 1])
+}
+
+fn four_bytes(s: &[u8], at: usize) -> u64
+    requires { ⌜ at + 4 ≤ length (now s) ⌝ }
+    ensures value { λ r. ⌜ r ≡ four (now (s .entry)) at ⌝ }
+    ensures small { λ r. ⌜ r < 4294967296 ⌝ }
+{
+    two_bytes(s, at) * 0x1_0000 + two_bytes(s, at + 2)
+}
+
+fn eight_bytes(s: &[u8], at: usize) -> u64
+    requires { ⌜ at + 8 ≤ length (now s) ⌝ }
+    ensures { λ r. ⌜ r ≡ eight (now (s .entry)) at ⌝ }
+{
+    four_bytes(s, at) * 0x1_0000_0000 + four_bytes(s, at + 4)
+}
+
+// The width of a command in bytes, its own byte included; 0 where the byte is no command's.
+fn command_width(byte: u8) -> usize
+    ensures { λ r. ⌜ r ≡ widthOf byte ⌝ }
+{
+    match byte {
+        1 => 11,
+        2 => 12,
+        3 => 13,
+        4 => 4,
+        5 => 3,
+        6 => 2,
+        7 => 13,
+        8 => 3,
+        9 => 3,
+        _ => 0,
+    }
+}
+
+// A command that ends in a value of eight bytes, at the front of the rest. The arm `_` is write, the shortest.
+fn valued_command(rest: &[u8]) -> Command
+    requires { ⌜ (11 ≤ length (now rest)) × (widthOf (byteOf (now rest) 0) ≤ length (now rest)) ⌝ }
+    ensures { λ r. ⌜ r ≡ valuedOf (now (rest .entry)) ⌝ }
+{
+    let strand = rest[1];
+    match rest[0] {
+        2 => Command::Insert {
+            strand,
+            side: rest[2],
+            flags: rest[3],
+            word: eight_bytes(rest, 4),
+        },
+        3 => Command::DemapPage {
+            strand,
+            side: rest[2],
+            selector: rest[3],
+            flags: rest[4],
+            address: eight_bytes(rest, 5),
+        },
+        7 => Command::Access {
+            strand,
+            kind: rest[2],
+            selector: rest[3],
+            size: rest[4],
+            address: VirtualAddress(eight_bytes(rest, 5)),
+        },
+        _ => Command::Write {
+            strand,
+            register: rest[2],
+            value: eight_bytes(rest, 3),
+        },
+    }
+}
+
+// A command of one-byte operands alone. The arm `_` is invalidate, the shortest.
+fn short_command(rest: &[u8]) -> Command
+    requires { ⌜ (2 ≤ length (now rest)) × (widthOf (byteOf (now rest) 0) ≤ length (now rest)) ⌝ }
+    ensures { λ r. ⌜ r ≡ shortOf (now (rest .entry)) ⌝ }
+{
+    let first = rest[1];
+    match rest[0] {
+        4 => Command::DemapContext {
+            strand: first,
+            side: rest[2],
+            selector: rest[3],
+        },
+        5 => Command::DemapAll {
+            strand: first,
+            side: rest[2],
+        },
+        8 => Command::Read {
+            strand: first,
+            register: rest[2],
+        },
+        9 => Command::Pointers {
+            strand: first,
+            side: rest[2],
+        },
+        _ => Command::Invalidate { side: first },
+    }
+}
+
+// The command at the front of the rest; number 2 where its byte is no command's, number 3 where its width runs past the end.
+fn decode_first(rest: &[u8]) -> Decoded
+    requires { ⌜ 0 < length (now rest) ⌝ }
+    ensures { λ r. ⌜ r ≡ decodeAt (now (rest .entry)) 0 ⌝ }
+{
+    let width = command_width(rest[0]);
+    if width == 0 {
+        return Decoded::Stop(2);
+    }
+    if rest.len() < width {
+        return Decoded::Stop(3);
+    }
+    if width < 11 {
+        return Decoded::Known(short_command(rest), width);
+    }
+    Decoded::Known(valued_command(rest), width)
+}
+
+// What stands at a position of the stream.
+pub fn decode(input: &[u8], at: usize) -> Decoded
+    requires { ⌜ at < length (now input) ⌝ }
+    ensures { λ r. ⌜ r ≡ decodeAt (now (input .entry)) at ⌝ }
+{
+    decode_first(&input[at..])
+}
+
+// The number of a decode answer that ends the run.
+pub fn stop_number(decoded: Decoded) -> u8
+    ensures { λ r. ⌜ r ≡ stopOf decoded ⌝ }
+{
+    match decoded {
+        Decoded::Stop(number) => number,
+        Decoded::Known(_, _) => 0,
+    }
+}
+
+// ---- answers
+
+// The bytes of an answer as three words, big-endian.
+pub struct Fields {
+    pub head: u64,
+    pub first: u64,
+    pub second: u64,
+}
+
+fn bit(set: bool) -> u64
+    ensures { λ r. ⌜ r ≡ tick set ⌝ }
+{
+    if set { 1 } else { 0 }
+}
+
+// Kind, a, b, c and four zeros as one word; of a, b and c the low byte.
+fn head_word(kind: u64, a: u64, b: u64, c: u64) -> u64
+    requires { ⌜ kind < 256 ⌝ }
+    ensures { λ r. ⌜ r ≡ headOf kind a b c ⌝ }
+{
+    kind * 0x0100_0000_0000_0000
+        + a % 256 * 0x0001_0000_0000_0000
+        + b % 256 * 0x0000_0100_0000_0000
+        + c % 256 * 0x0000_0001_0000_0000
+}
+
+// An answer as its words.
+fn trap_fields(t: Trapped) -> Fields
+    ensures { λ r. ⌜ r ≡ fieldsOf (TrapAnswer t) ⌝ }
+{
+    let trap = t.trap;
+    Fields {
+        head: head_word(2, numbers::trap_number(trap), numbers::trap_fault(trap), 0),
+        first: t.address.0,
+        second: t.tag,
+    }
+}
+
+fn fields_of(answer: Answer) -> Fields
+    ensures { λ r. ⌜ r ≡ fieldsOf answer ⌝ }
+{
+    match answer {
+        Answer::Done(count) => Fields {
+            head: head_word(0, 0, 0, 0),
+            first: count,
+            second: 0,
+        },
+        Answer::Physical(t) => Fields {
+            head: head_word(1, t.attributes, 0, 0),
+            first: t.address.0,
+            second: 0,
+        },
+        Answer::Trap(t) => trap_fields(t),
+        Answer::Read(first, second) => Fields {
+            head: head_word(3, 0, 0, 0),
+            first,
+            second,
+        },
+        Answer::Displaced(d) => Fields {
+            head: head_word(4, 0, d.partition, bit(d.real)),
+            first: d.place,
+            second: d.word,
+        },
+        Answer::Refused(refusal) => Fields {
+            head: head_word(5, numbers::refusal_number(refusal), 0, 0),
+            first: 0,
+            second: 0,
+        },
+    }
+}
+
+// Eight bytes of a value, big-endian.
+fn put_eight(output: &mut [u8], at: usize, v: u64)
+    requires { ⌜ at + 8 ≤ length (now output) ⌝ }
+    ensures { λ _. ⌜ now (output .exit) ≡ sets (now (output .entry)) at (bytes v) ⌝ }
+{
+    output[at] = ((v >> 56) % 256) as u8;
+    output[at + 1] = ((v >> 48) % 256) as u8;
+    output[at + 2] = ((v >> 40) % 256) as u8;
+    output[at + 3] = ((v >> 32) % 256) as u8;
+    output[at + 4] = ((v >> 24) % 256) as u8;
+    output[at + 5] = ((v >> 16) % 256) as u8;
+    output[at + 6] = ((v >> 8) % 256) as u8;
+    output[at + 7] = (v % 256) as u8;
+}
+
+// The 24 bytes of an answer.
+pub fn put_answer(output: &mut [u8], at: usize, answer: Answer)
+    requires { ⌜ at + 24 ≤ length (now output) ⌝ }
+    ensures { λ r. ⌜ now (output .exit) ≡ sets (now (output .entry)) at (answerBytes answer) ⌝ }
+{
+    let fields = fields_of(answer);
+    put_eight(output, at, fields.head);
+    put_eight(output, at + 8, fields.first);
+    put_eight(output, at + 16, fields.second);
+}
