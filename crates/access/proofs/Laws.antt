@@ -1,20 +1,18 @@
 -- The state that a callee left, read back, and what a trap writes.
 -- Assumes nothing.
-use Prim.Native.Nat.{ℕ, _<_}
+use Prim.Native.Nat.{ℕ}
 use mathlib.Core.Path.{_≡_, _∙_}
 use mathlib.Core.List.{List}
-use native.Mathlib.Omega.{arith}
 use lib.Dec.{eqb}
 use lib.ListN.{length, length-set}
 use Rattle.laws.proofs.Bools.{by-test}
 use Rattle.machine.specs.Registers.{registerWords, withRegister}
 use Rattle.machine.specs.State.{counts, State, stateOf, encode, sideOf, withRegisters}
-use Rattle.machine.specs.Access.{trapNumber, trapRegisters}
+use Rattle.machine.specs.Access.{trapRegisters}
 use Rattle.machine.specs.declared.Access.{Access}
 use Rattle.machine.specs.declared.Tag.{Tag}
 use Rattle.machine.specs.declared.Tag.the-variants.{Kept, Written}
 use Rattle.machine.specs.declared.Trap.{Trap}
-use Rattle.machine.specs.declared.Trap.the-variants as trap
 use Rattle.state.proofs.Parts.{Sized, sized-with-registers, sized-back}
 
 -- words that hold a state of the right size give it back
@@ -39,15 +37,3 @@ pub trap-length : (file : List ℕ) (a : Access) (t : Trap) (tag : Tag) → leng
 unfolding trapRegisters
 trap-length file a t Kept = simp length-set
 trap-length file a t (Written context) = simp length-set
-
--- a trap's number is a byte
-pub number-small : (t : Trap) → trapNumber t < 256
-number-small (trap.InstructionAccessException fault) = omega arith
-number-small (trap.DataAccessException fault) = omega arith
-number-small trap.AddressNotAligned = omega arith
-number-small trap.PrivilegedAction = omega arith
-number-small trap.InstructionRealMiss = omega arith
-number-small trap.DataRealMiss = omega arith
-number-small trap.InstructionMiss = omega arith
-number-small trap.DataMiss = omega arith
-number-small trap.DataProtection = omega arith

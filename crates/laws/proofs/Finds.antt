@@ -83,10 +83,10 @@ module _ {A : Type 0} where
       let b : find p l ≡ some y = find-only p l y f h one in
       cc
 
-  -- to strike it takes that one away
-  pub strike-once : (p q : A → Bool) (l : List A) (x : A) → q x ≡ true → Stands x l → count q l ≤ 1
+  -- without it that one is gone
+  pub removed-once : (p q : A → Bool) (l : List A) (x : A) → q x ≡ true → Stands x l → count q l ≤ 1
       → count p l ≡ tick (p x) + count (λ z. not (q z) && p z) l
-  strike-once p q l x e h one = by-test (p x)
+  removed-once p q l x e h one = by-test (p x)
       (λ t.
       let a : 1 ≤ count (λ z. q z && p z) l = stands-count _ l x (and-both (q x) (p x) e t) h in
       let b : count (λ z. q z && p z) l ≤ count q l = count-le _ q l (λ z. and-left (q z) (p z)) in

@@ -26,7 +26,7 @@ use Rattle.machine.specs.declared.Access.{Access}
 use Rattle.machine.specs.State.{Counts, slotCount, State, sideOf, withSide}
 use Rattle.machine.specs.Step.{placedAnswer, demap, act}
 use Rattle.machine.specs.Stream.{Bytes, answerBytes}
-use Rattle.machine.specs.Ledger.{Entry, Ledger, Name, nameIn, isNamed, line, lacksSlot, overlap, unlocked, Written, inserts, strikes, withEntries, isAt, inContext, inPartition, contextPicked, translationOn, Asked, askedSide, earlySteps, foundBy, misses, lookedUp, accesses, pointers, does}
+use Rattle.machine.specs.Ledger.{Entry, Ledger, Name, nameIn, isNamed, line, lacksSlot, overlap, unlocked, Written, inserts, demaps, withEntries, isAt, inContext, inPartition, contextPicked, translationOn, Asked, askedSide, earlySteps, foundBy, misses, lookedUp, accesses, pointers, does}
 use Rattle.machine.specs.Demand3.{entryIn, InsertionSays, AccessSays}
 use Rattle.machine.specs.declared.Slot.{Slot}
 use Rattle.machine.specs.declared.Removal.{Removal}
@@ -67,13 +67,13 @@ alike-marked (suc (suc j)) b h k = absurd (omega arith)
 
 -- ---- demaps
 module _ {n : Counts} {u : State} {l : Ledger} (h : Alike n u l) (side : ℕ) (b : side < 2) where
-  pub demap-bytes : (which : Removal) (p : Entry → Bool) → SameTest (removes which) p → strikes l side p .bytes ≡ answerBytes (demap u side which .answer)
+  pub demap-bytes : (which : Removal) (p : Entry → Bool) → SameTest (removes which) p → demaps l side p .bytes ≡ answerBytes (demap u side which .answer)
   unfolding answerBytes
   demap-bytes which p t =
       let s = alike-side side b h in
       sym (line-answer 0 _ 0 (omega arith) (omega arith) (omega arith) ∙ ap (λ (k : ℕ). line 0 0 0 0 k 0) (alike-count s t))
 
-  pub demap-alike : (which : Removal) (p : Entry → Bool) → SameTest (removes which) p → Alike n (demap u side which .state) (strikes l side p .ledger)
+  pub demap-alike : (which : Removal) (p : Entry → Bool) → SameTest (removes which) p → Alike n (demap u side which .state) (demaps l side p .ledger)
   demap-alike which p t = alike-with-side side b h (alike-removed (alike-side side b h) t)
 
 -- ---- insertion
@@ -81,9 +81,10 @@ tick-small : (b : Bool) → tick b < 2
 tick-small true = omega arith
 tick-small false = omega arith
 
-range-below : (a : ℕ) → inRange a ≡ true → a < 2 ^ 64
+-- an address in range has 64 bits
+pub range-fits : (a : ℕ) → inRange a ≡ true → a < 2 ^ 64
 unfolding inRange
-range-below a h =
+range-fits a h =
     by-test (ltb a (2 ^ 47))
     (λ e. omega (arith, ltb-true a (2 ^ 47) e))
     (λ e. ltb-true a (2 ^ 64) (and-right (leb (2 ^ 64 - 2 ^ 47) a) _ (or-other (ltb a (2 ^ 47)) _ h e)))
@@ -102,7 +103,7 @@ unfolding answerBytes
 displaced-name x k l =
     let w = live-parts x k l in
     let (q, a) = aligned x k l in
-    let p : x .page < 2 ^ 64 = range-below (x .page) (w .range) in
+    let p : x .page < 2 ^ 64 = range-fits (x .page) (w .range) in
     let e : nameIn (answerBytes (placedAnswer (Displaced x))) ≡ nameOf x =
     name-back (omega (arith, w .partition)) (omega (arith, tick-small (isReal x))) (omega (arith, w .context)) (word-below (x .word) (w .word)) in
     rw e (named-self x)
@@ -259,7 +260,7 @@ module _ {n : Counts} {u : State} {l : Ledger} (h : Alike n u l) where
       rw (h .registers strand 0 s (omega arith), context-picked h strand s selector c)
       (context-test (partition (u .registers) strand) (selected (u .registers) strand selector) (w .partitions) (w .contexts selector))
 
-  demap-does : (side : ℕ) (which : Removal) (p : Entry → Bool) → side < 2 → SameTest (removes which) p → StepAlike n (demap u side which) (strikes l side p)
+  demap-does : (side : ℕ) (which : Removal) (p : Entry → Bool) → side < 2 → SameTest (removes which) p → StepAlike n (demap u side which) (demaps l side p)
   demap-does side which p b t = record { bytes = sym (demap-bytes h side b which p t); alike = demap-alike h side b which p t }
 
   -- ---- the lookup itself

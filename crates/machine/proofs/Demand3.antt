@@ -7,7 +7,7 @@ use lib.ListN.{length, take, drop}
 use native.Mathlib.Omega.{arith}
 use lib.Dec.{eqb, ltb, leb}
 use borrow.Author.Tests.{eq-eqb, ne-eqb, eqb-true, eqb-false, leb-true, ltb-true}
-use Rattle.laws.specs.Tests.{allOf}
+use Rattle.laws.specs.Tests.{count, allOf}
 use Rattle.laws.proofs.Bools.{by-test, clash, and-both, and-left, and-right}
 use Rattle.machine.specs.State.{Counts, slotCount, State, sideOf, stateOf, encode, reset, sideFits, sound, wordsSound}
 use Rattle.machine.specs.Pages.{inRange}
@@ -19,7 +19,7 @@ use Rattle.machine.specs.Questions.{flagLocked, insertion, asked, verdic
 use Rattle.machine.specs.Step.{placedAnswer, act, step}
 use Rattle.machine.specs.Stream.{Bytes, answerBytes, after, answersBytes, runOf}
 use Rattle.machine.specs.Ledger.{Entry, Ledger, start, line, Written, nameIn, addressGood, wordGood, tagOf, newEntry, firstNo, questions, inserts, does, enters}
-use Rattle.machine.specs.Demand3.{entryIn, unitBytes, fed, ledgerAfter, ledgerBytes, Says, CommandsSay, commandsOf, RunSays, Event, run, EventsSay, Demand3}
+use Rattle.machine.specs.Demand3.{entryIn, unitBytes, fed, ledgerAfter, ledgerBytes, Says, CommandsSay, commandsOf, RunSays, Event, run, EventsSay, Demand3, entriesIn, ledgerOf, Described}
 use Rattle.machine.specs.declared.Slot.{Slot}
 use Rattle.machine.specs.declared.Placed.{Placed}
 use Rattle.machine.specs.declared.Refusal.the-variants as refusal
@@ -28,9 +28,9 @@ use Rattle.machine.specs.declared.Command.the-variants as command
 use Rattle.machine.specs.declared.Verdict.{Verdict}
 use Rattle.machine.specs.declared.Verdict.the-variants.{Passed, Refused}
 use Rattle.machine.proofs.Sound.{entry-live}
-use Rattle.machine.proofs.State.{sound-encode, words-sound, passed-asked, insertion-sound}
+use Rattle.machine.proofs.State.{sound-registers, sound-side, sound-encode, encode-state, words-sound, sound-words, passed-asked, insertion-sound}
 use Rattle.machine.proofs.Runs.{run-answered, run-words, run-front, run-past, run-reads, run-ended, run-not-one}
-use Rattle.machine.proofs.Alike.{SideAlike, Alike}
+use Rattle.machine.proofs.Alike.{hit, SideAlike, Alike}
 use Rattle.machine.proofs.Sides.{alike-empty}
 use Rattle.machine.proofs.Questions.{verdictNumber, same-number, number-passed, number-refused, slotLeft, refused-alike, passed-alike, refused-bytes, reset-alike, tag-address, address-good, word-good, word-insertable, insertion-entry}
 use Rattle.machine.proofs.Looks.{StepAlike, used-alike}
@@ -272,3 +272,29 @@ events-say n (run input output ∷ es) u l h =
 pub demand3 : (n : Counts) → Demand3 n
 unfolding Demand3
 demand3 n es = events-say n es (reset n) start (reset-alike n (alike-empty (n .itlb)) (alike-empty (n .dtlb)))
+
+-- ---- from any state
+entries-same : (p : Entry → Bool) (s : List Slot) → count (hit p) s ≡ count p (entriesIn s)
+unfolding count entriesIn
+entries-same p [] = refl
+entries-same p (x ∷ r) = by-test (isLive x) (λ e. rw (e, entries-same p r)) (λ e. rw e (omega (arith, entries-same p r)))
+
+-- a sound state and its ledger
+state-alike : (n : Counts) (u : State) → sound n u ≡ true → Alike n u (ledgerOf u)
+state-alike n u h = record { allowed = sound-registers n u h; registers = λ strand number s k. refl; itlb = side 0; dtlb = side 1 }
+  where
+    side : (k : ℕ) → SideAlike (slotCount n k) (sideOf u k) (entriesIn (sideOf u k))
+    side k = record { size = sound-side n u h k .0; sound = sound-side n u h k .1; same = λ p. entries-same p (sideOf u k) }
+
+-- words that are not sound stop with 1
+unsound-stops : (n : Counts) (words : List ℕ) (input output : Bytes) → wordsSound n words ≡ false → runOf n words input output .stop ≡ 1
+unfolding runOf
+unsound-stops n words input output e = rw e
+
+pub described : Described
+described = record {
+  sound = λ n words w es.
+      let (s, l) = sound-words n words w in
+      rw (encode-state n words l) at (events-say n es (stateOf n words) (ledgerOf (stateOf n words)) (state-alike n (stateOf n words) s));
+  only = λ n words l h. by-test (wordsSound n words) (λ e. e) (λ e. absurd (h (run [] [] ∷ []) .0 .sound (unsound-stops n words [] [] e)));
+}

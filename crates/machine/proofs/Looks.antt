@@ -130,7 +130,8 @@ miss-trap true false = (refl, refl)
 miss-trap false true = (refl, refl)
 miss-trap false false = (refl, refl)
 
-number-small : (t : Trap) → trapNumber t < 256
+-- a trap's number is a byte
+pub number-small : (t : Trap) → trapNumber t < 256
 number-small (trap.InstructionAccessException fault) = omega arith
 number-small (trap.DataAccessException fault) = omega arith
 number-small trap.AddressNotAligned = omega arith

@@ -18,7 +18,7 @@ use Rattle.laws.specs.declared.Found.the-variants.{At, Nothing}
 use Rattle.laws.proofs.Bools.{by-test, clash, both-ways, and-both, and-left, and-right, and-no}
 use Rattle.laws.proofs.Counts.{count-append, count-without, count-none, count-all, count-rest, count-at, count-one, count-le, none-count, count-allOf}
 use Rattle.laws.proofs.Walks.{found-at, found-none}
-use Rattle.laws.proofs.Finds.{count-index, find-zero, find-only, once-same, strike-once, count-where, first-where, zero-none, without-none}
+use Rattle.laws.proofs.Finds.{count-index, find-zero, find-only, once-same, removed-once, count-where, first-where, zero-none, without-none}
 use Rattle.machine.specs.Pages.{listed, pageShift, pageSize, pageStart}
 use Rattle.machine.specs.Words.{wordSound}
 use Rattle.machine.specs.Slots.{noSlot, isLive, sizeCode, partitionOf, isReal, contextOf, isLocked, isUsed, holds, answersTo, setUsed}
@@ -473,7 +473,7 @@ module _ {n : ℕ} {s : List Slot} {m : List Entry} (h : SideAlike n s m) where
                 rw (d, l, lx, without-none (overlap (entryIn new)) m apart) at (counts r) in
                 omega (
                   arith,
-                  strike-once r (isNamed c) m (entryIn x) t listed (named-once c),
+                  removed-once r (isNamed c) m (entryIn x) t listed (named-once c),
                   count-without r (isNamed c) m,
                   count-append r (without (isNamed c) m) (entryIn new ∷ []),
                 );

@@ -23,7 +23,8 @@ use Rattle.machine.specs.Sound.{slotSound, sideSound}
 use Rattle.machine.specs.Registers.{registerWords, cell, register, withRegister, partition, mode, addressMask, selected, tagAccess, tagAddress, tagContext, known, writable, baseAllowed, configurationAllowed, allowed, registersSound, resetStrands}
 use Rattle.machine.specs.State.{slotCount, Counts, State, sideOf, withSide, withRegisters, stateWords, stateOf, encode, reset, sideFits, sound, wordsSound}
 use Rattle.machine.specs.Questions.{Question, kindSide, flagReal, flagLocked, keyOf, insertion, asked, ask, verdict}
-use Rattle.machine.specs.Access.{judge, prepare, trapTag, trapRegisters, addressUsed, trapTo, settleJudged, settleFound, settle}
+use Rattle.machine.specs.Access.{judge, prepare, trapTag, trapRegisters, addressUsed, settleJudged, settleFound, settle}
+use Rattle.machine.specs.Unseen.{SameSlots}
 use Rattle.machine.specs.declared.Access.{Access}
 use Rattle.machine.specs.declared.Tag.{Tag}
 use Rattle.machine.specs.declared.Tag.the-variants as effect
@@ -45,6 +46,7 @@ use Rattle.machine.specs.declared.Verdict.the-variants.{Passed, Refused}
 use Rattle.machine.proofs.Words.{insertable-sound}
 use Rattle.machine.proofs.Slots.{words-back, slots-back, words-length}
 use Rattle.machine.proofs.Insertion.{length-removed, length-inserted}
+use Rattle.machine.proofs.Unseen.{unseen}
 use Rattle.machine.proofs.Sound.{entry-sound, empty-sound, sound-removed, sound-set-used, sound-inserted}
 
 ruleset conj = (and-left, and-right, eqb-true, ltb-true)
@@ -292,25 +294,28 @@ marked-sound n u side i key h e =
     let live : isLive (getD s i noSlot) ≡ true = search conj in
     sound-with-side n u h side _ (length-set s i _) (sound-set-used s i (sound-side n u h side .1) live)
 
--- an access of a known strand, from where it stops
-module _ (n : Counts) (a : Access) (s : a .strand < 4) where
-  trapped-sound : (u : State) (t : Trap) (tag : Tag) → sound n u ≡ true → sound n (trapTo u a t tag .state) ≡ true
-  trapped-sound u t tag h = sound-with-registers n u h _ (trap-sound (u .registers) a t tag (sound-registers n u h) s)
+-- the slots of a sound state with other registers
+same-sound : (n : Counts) (u v : State) → sound n u ≡ true → SameSlots v u → registersSound (v .registers) ≡ true → sound n v ≡ true
+unfolding sound
+same-sound n u v h (i, d) r = and-both _ _ r (rw (i, d) (and-right (registersSound (u .registers)) _ h))
 
-  judged-sound : (u : State) (j : Judged) → sound n u ≡ true → sound n (settleJudged u a j .state) ≡ true
-  judged-sound u (judged.Faulted t) h = trapped-sound u t (trapTag (u .registers) a) h
-  judged-sound u (judged.Translated p) h = h
+-- an access of a known strand, from where it stops; which used bits it sets is said in `Unseen`
+module _ (n : Counts) (a : Access) (s : a .strand < 4) where
+  judged-registers : (u : State) (j : Judged) → registersSound (u .registers) ≡ true → registersSound (settleJudged u a j .state .registers) ≡ true
+  judged-registers u (judged.Faulted t) h = trap-sound (u .registers) a t (trapTag (u .registers) a) h s
+  judged-registers u (judged.Translated p) h = h
 
   found-sound : (u : State) (key : Key) (f : Found) → sound n u ≡ true → first (answersTo key) (sideOf u (kindSide (a .kind))) ≡ f
       → sound n (settleFound u a f .state) ≡ true
-  found-sound u key Nothing h e = trapped-sound u _ _ h
+  found-sound u key Nothing h e = same-sound n u _ h (unseen .missed u a) (trap-sound (u .registers) a _ _ (sound-registers n u h) s)
   found-sound u key (At i) h e =
       let side : ℕ = kindSide (a .kind) in
-      judged-sound (withSide u side (setUsed i (sideOf u side))) (judge (u .registers) a (getD (sideOf u side) i noSlot .word)) (marked-sound n u side i key h e)
+      same-sound n (withSide u side (setUsed i (sideOf u side))) _ (marked-sound n u side i key h e) (unseen .marked u a i)
+      (judged-registers _ (judge (u .registers) a (getD (sideOf u side) i noSlot .word)) (sound-registers n u h))
 
   settled-sound : (u : State) (p : Prepared) → sound n u ≡ true → sound n (settle u a p .state) ≡ true
-  settled-sound u (prepared.Stopped t tag) h = trapped-sound u t tag h
-  settled-sound u (prepared.Bypass p) h = h
+  settled-sound u (prepared.Stopped t tag) h = same-sound n u _ h (unseen .stopped u a t tag) (trap-sound (u .registers) a t tag (sound-registers n u h) s)
+  settled-sound u (prepared.Bypass p) h = same-sound n u _ h (unseen .bypassed u a p) (sound-registers n u h)
   settled-sound u (prepared.Lookup key) h = found-sound u key (first (answersTo key) (sideOf u (kindSide (a .kind)))) h refl
 
 -- every command that no question refused

@@ -1,31 +1,26 @@
 -- Used bits, slot counts and page matches are as document 01 has them. Assumes nothing.
-use Prim.Native.Nat.{ℕ, _+_, _/_, _%_}
+use Prim.Native.Nat.{ℕ, _+_}
 use mathlib.Core.Path.{_≡_, refl}
 use mathlib.Core.Bool.{Bool, true, false}
 use mathlib.Core.List.{List}
-use lib.Dec.{eqb}
+use lib.ListN.{getD}
 use Rattle.laws.specs.Tests.{tick}
-use Rattle.laws.proofs.Bools.{by-test}
-use Rattle.machine.specs.Slots.{pageMatch, isUsed, setUsed}
+use Rattle.machine.specs.Slots.{noSlot, pageMatch, isUsed, setUsed}
 use Rattle.machine.specs.Insertion.{entryOf}
 use Rattle.machine.specs.State.{State, sideOf, withSide}
 use Rattle.machine.specs.Questions.{kindSide}
-use Rattle.machine.specs.Access.{judge, trapRegisters, settleJudged}
-use Rattle.machine.specs.Unseen.{Unseen}
+use Rattle.machine.specs.Access.{judge, settleJudged}
+use Rattle.machine.specs.Unseen.{SameSlots, Unseen}
 use Rattle.machine.specs.declared.Slot.{Slot}
 use Rattle.machine.specs.declared.Key.{Key}
 use Rattle.machine.specs.declared.Access.{Access}
 use Rattle.machine.specs.declared.Judged.{Judged}
 use Rattle.machine.specs.declared.Judged.the-variants as judged
 
--- a side that was put is there
-put-there : (u : State) (side : ℕ) (s : List Slot) → sideOf (withSide u side s) side ≡ s
-put-there u side s = by-test (eqb side 0) (λ e. rw e) (λ e. rw e)
-
 -- no judgement touches the slots
-judged-slots : (u : State) (a : Access) (side : ℕ) (j : Judged) → sideOf (settleJudged u a j .state) side ≡ sideOf u side
-judged-slots u a side (judged.Faulted t) = refl
-judged-slots u a side (judged.Translated t) = refl
+judged-slots : (u : State) (a : Access) (j : Judged) → SameSlots (settleJudged u a j .state) u
+judged-slots u a (judged.Faulted t) = (refl, refl)
+judged-slots u a (judged.Translated t) = (refl, refl)
 
 new-used : (b : Bool) → isUsed (record { owner = 0; page = 0; word = 0; flags = tick b + 2 }) ≡ true
 new-used true = refl
@@ -39,9 +34,8 @@ unseen = record {
   stopped = λ u a t tag. (refl, refl);
   bypassed = λ u a t. (refl, refl);
   marked = λ u a i.
-      let k : ℕ = kindSide (a .kind) in
-      let v : State = withSide u k (setUsed i (sideOf u k)) in
-      rw (judged-slots v a k) (put-there u k (setUsed i (sideOf u k)));
+      let s : List Slot = sideOf u (kindSide (a .kind)) in
+      judged-slots (withSide u (kindSide (a .kind)) (setUsed i s)) a (judge (u .registers) a (getD s i noSlot .word));
   new = λ key locked word. new-used locked;
   within = λ x address h. rw h;
   outside = λ x address h. rw h;

@@ -6,11 +6,12 @@ use mathlib.Core.Bool.{Bool, true, false, not, _&&_}
 use mathlib.Core.List.{List, [], _∷_, _++_}
 use mathlib.Core.Logic.{_↔_}
 use lib.ListN.{length, getD, take, drop}
-use Rattle.laws.specs.Tests.{count, anyOf, first}
+use Rattle.laws.specs.Tests.{pick, count, anyOf, first}
 use Rattle.laws.specs.declared.Found.{Found}
 use Rattle.laws.specs.declared.Found.the-variants.{At, Nothing}
-use Rattle.machine.specs.Slots.{noSlot, partitionOf, isReal, contextOf, isLocked, isUsed}
-use Rattle.machine.specs.State.{Counts, slotCount, State, sideOf, stateOf, encode, reset}
+use Rattle.machine.specs.Slots.{noSlot, isLive, partitionOf, isReal, contextOf, isLocked, isUsed}
+use Rattle.machine.specs.Registers.{register}
+use Rattle.machine.specs.State.{Counts, slotCount, State, sideOf, stateOf, encode, reset, wordsSound}
 use Rattle.machine.specs.Step.{step}
 use Rattle.machine.specs.Stream.{Bytes, Taken, Outcome, decodeAt, takenOf, answerBytes, runOf}
 use Rattle.machine.specs.Ledger.{Entry, Ledger, start, overlap, unlocked, line, Written, nameIn, isNamed, newEntry, firstNo, questions, Asked, usedAddress, askedSide, earlySteps, foundBy, misses, hits, enters}
@@ -133,3 +134,18 @@ EventsSay n words l (run input output ∷ es) =
 
 unfoldable pub Demand3 : Counts → Type 0
 Demand3 n = (es : List Event) → EventsSay n (encode (reset n)) start es
+
+-- ---- from any state
+-- the entries of a side, lowest slot first
+unfoldable pub entriesIn : List Slot → List Entry
+entriesIn [] = []
+entriesIn (x ∷ r) = pick (isLive x) (entryIn x ∷ entriesIn r) (entriesIn r)
+
+-- the ledger of a state: its registers and the entries of its live slots
+abbrev pub ledgerOf : State → Ledger
+ledgerOf u = record { registers = register (u .registers); entries = λ side. entriesIn (sideOf u side) }
+
+-- sound states are those that a ledger describes: from a sound one every list of runs is answered as its ledger answers it, and no other words have a ledger
+pub record Described : Type 0 where
+  pub sound : (n : Counts) (words : List ℕ) → wordsSound n words ≡ true → (es : List Event) → EventsSay n words (ledgerOf (stateOf n words)) es
+  pub only : (n : Counts) (words : List ℕ) (l : Ledger) → ((es : List Event) → EventsSay n words l es) → wordsSound n words ≡ true

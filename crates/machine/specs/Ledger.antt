@@ -204,8 +204,8 @@ inserts n l side e d =
     (answers (withEntries l side (without (overlap e) m ++ (e ∷ []))) (line 0 0 0 0 0 0)))
 
 -- "for a demap the count struck"
-abbrev pub strikes : Ledger → ℕ → (Entry → Bool) → Written
-strikes l side p = answers (withEntries l side (without p (l .entries side))) (line 0 0 0 0 (count p (l .entries side)) 0)
+abbrev pub demaps : Ledger → ℕ → (Entry → Bool) → Written
+demaps l side p = answers (withEntries l side (without p (l .entries side))) (line 0 0 0 0 (count p (l .entries side)) 0)
 
 -- of a partition and a realness and, if virtual, a context, and its page holds the address
 unfoldable pub isAt : ℕ → Bool → ℕ → ℕ → Entry → Bool
@@ -320,9 +320,9 @@ unfoldable pub does : (ℕ → ℕ) → Ledger → Command → Name → Written
 does n l (command.Write strand number value) d = answers (writes l strand number value) (line 0 0 0 0 0 0)
 does n l (command.Insert strand side flags word) d = inserts (n side) l side (newEntry l strand side flags word) d
 does n l (command.DemapPage strand side selector flags address) d =
-    strikes l side (isAt (l .registers strand 0) (eqb flags 1) (contextPicked l strand selector) address)
-does n l (command.DemapContext strand side selector) d = strikes l side (inContext (l .registers strand 0) (contextPicked l strand selector))
-does n l (command.DemapAll strand side) d = strikes l side (inPartition (l .registers strand 0))
+    demaps l side (isAt (l .registers strand 0) (eqb flags 1) (contextPicked l strand selector) address)
+does n l (command.DemapContext strand side selector) d = demaps l side (inContext (l .registers strand 0) (contextPicked l strand selector))
+does n l (command.DemapAll strand side) d = demaps l side (inPartition (l .registers strand 0))
 does n l (command.Invalidate side) d = answers (withEntries l side []) (line 0 0 0 0 0 0)
 does n l (command.Access strand kind selector size address) d =
     accesses l (record { strand = strand; kind = kind; selector = selector; size = size; used = usedAddress l strand (address .0) })

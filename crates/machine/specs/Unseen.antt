@@ -7,7 +7,7 @@ use Rattle.laws.specs.declared.Found.the-variants.{At, Nothing}
 use Rattle.machine.specs.Pages.{pageOffset}
 use Rattle.machine.specs.Slots.{sizeCode, holds, pageMatch, isUsed, setUsed}
 use Rattle.machine.specs.Insertion.{entryOf}
-use Rattle.machine.specs.State.{counts, State, sideOf}
+use Rattle.machine.specs.State.{counts, State, sideOf, withSide}
 use Rattle.machine.specs.Questions.{kindSide}
 use Rattle.machine.specs.Access.{settleFound, settle}
 use Rattle.machine.specs.declared.Slot.{Slot}
@@ -31,7 +31,9 @@ pub record Unseen : Type 0 where
   pub stopped : (u : State) (a : Access) (t : Trap) (tag : Tag) → SameSlots (settle u a (prepared.Stopped t tag) .state) u
   pub bypassed : (u : State) (a : Access) (t : Translation) → SameSlots (settle u a (prepared.Bypass t) .state) u
   -- "The found entry is marked.", whether it ends in a fault or not
-  pub marked : (u : State) (a : Access) (i : ℕ) → sideOf (settleFound u a (At i) .state) (kindSide (a .kind)) ≡ setUsed i (sideOf u (kindSide (a .kind)))
+  pub marked : (u : State) (a : Access) (i : ℕ) →
+      let side : ℕ = kindSide (a .kind) in
+      SameSlots (settleFound u a (At i) .state) (withSide u side (setUsed i (sideOf u side)))
   -- "The new entry is marked."
   pub new : (key : Key) (locked : Bool) (word : ℕ) → isUsed (entryOf key locked word) ≡ true
   -- the match of an address against a page

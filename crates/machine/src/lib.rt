@@ -1,7 +1,7 @@
 // What a buyer must believe: the declared types, the definitions in specs/ and the theorems on them.
 ghost use mathlib.Core.Path.{_≡_};
 ghost use Rattle.machine.specs.State.{Counts};
-ghost use Rattle.machine.specs.Demand3.{Demand3};
+ghost use Rattle.machine.specs.Demand3.{Demand3, Described};
 ghost use Rattle.machine.specs.Frame.{Framed, SoundKept};
 ghost use Rattle.machine.specs.Examples.{Starred, PrintedRun};
 ghost use Rattle.machine.specs.Unseen.{Unseen};
@@ -256,6 +256,7 @@ pub struct Run {
 pub fn answer_width() -> usize
     ensures width { λ r. ⌜ r ≡ 24 ⌝ }
     ensures demand3 { λ r. ⌜ ((n : Counts) → Demand3 n) ⌝ }
+    ensures described { λ r. ⌜ Described ⌝ }
     ensures sound { λ r. ⌜ SoundKept ⌝ }
     ensures framed { λ r. ⌜ Framed ⌝ }
     ensures unseen { λ r. ⌜ Unseen ⌝ }

@@ -1,15 +1,13 @@
 -- What the code that acts may rely on: the operands of a command that passed its questions, and an entry displaced from a sound side.
 -- Assumes nothing.
-use Prim.Native.Nat.{ℕ, _+_, _-_, _^_, _<_}
+use Prim.Native.Nat.{ℕ, _<_}
 use mathlib.Core.Path.{_≡_}
 use mathlib.Core.Bool.{true}
 use mathlib.Core.List.{List}
 use native.Mathlib.Omega.{arith}
-use lib.Dec.{ltb, leb}
 use borrow.Author.Tests.{eqb-true, ltb-true}
 use Rattle.laws.specs.Tests.{allOf}
-use Rattle.laws.proofs.Bools.{by-test, and-left, and-right, or-other}
-use Rattle.machine.specs.Pages.{inRange}
+use Rattle.laws.proofs.Bools.{and-left, and-right}
 use Rattle.machine.specs.Slots.{isLive}
 use Rattle.machine.specs.Insertion.{candidate, placed}
 use Rattle.machine.specs.Sound.{slotSound, sideSound}
@@ -25,6 +23,7 @@ use Rattle.machine.specs.declared.Verdict.the-variants.{Passed}
 use Rattle.machine.proofs.Insertion.{PlacedSays, placed-says}
 use Rattle.machine.proofs.Sound.{live-parts, sound-slot}
 use Rattle.machine.proofs.Sides.{aligned}
+use Rattle.machine.proofs.Commands.{range-fits}
 use Rattle.machine.proofs.State.{passed-asked, known-below, writable-below}
 use Rattle.mmu.specs.Fits.{PlaceFits}
 
@@ -74,13 +73,6 @@ passed-within u (command.Pointers strand side) v =
     let q = passed-asked u (command.Pointers strand side) v in
     (search conj, search conj)
 
-range-below : (a : ℕ) → inRange a ≡ true → a < 2 ^ 64
-unfolding inRange
-range-below a h =
-    by-test (ltb a (2 ^ 47))
-    (λ e. omega (arith, ltb-true a (2 ^ 47) e))
-    (λ e. ltb-true a (2 ^ 64) (and-right (leb (2 ^ 64 - 2 ^ 47) a) _ (or-other (ltb a (2 ^ 47)) _ h e)))
-
 -- a page starts at a multiple of 2^13, so its context fits beside it
 pub place-fits : (new : Slot) (s : List Slot) → sideSound s ≡ true → PlaceFits (placed candidate new s)
 place-fits new s h = go (placed candidate new s) (placed-says candidate new s)
@@ -93,4 +85,4 @@ place-fits new s h = go (placed candidate new s) (placed-says candidate new s)
         let l : isLive x ≡ true = and-left _ _ (w .allowed) in
         let p = live-parts x k l in
         let (q, a) = aligned x k l in
-        omega (arith, range-below (x .page) (p .range), p .context)
+        omega (arith, range-fits (x .page) (p .range), p .context)

@@ -10,7 +10,8 @@ use Rattle.machine.specs.Questions.{kindSide}
 use Rattle.machine.specs.Registers.{withRegister}
 use Rattle.machine.specs.State.{counts, State, stateOf}
 use Rattle.state.proofs.Parts.{sized-words}
-use Rattle.access.proofs.Laws.{written-more, number-small}
+use Rattle.machine.proofs.Looks.{number-small}
+use Rattle.access.proofs.Laws.{written-more}
 use Rattle.access.proofs.write_fault.Statement.{statement}
 use Rattle.access.proofs.write_fault.Tie as tie
 
