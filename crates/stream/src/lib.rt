@@ -21,7 +21,7 @@ pub fn run(state: &mut [u64], input: &[u8], output: &mut [u8]) -> Run
     let mut at = 0;
     let mut answered = 0;
     while at < input.len() {
-        let decoded = wire::decode(input, at);
+        let decoded = wire::command_at(input, at);
         let Decoded::Known(command, width) = decoded else {
             return Run {
                 answered,

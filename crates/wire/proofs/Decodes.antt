@@ -1,12 +1,12 @@
 -- The command at a position: read at the front of the rest, and told by its width. Assumes nothing.
 use Prim.Native.Nat.{ℕ, _≤_}
 use mathlib.Core.Bool.{cond}
-use mathlib.Core.Path.{_≡_, refl}
+use mathlib.Core.Path.{_≡_, refl, sym, _∙_}
 use native.Mathlib.Nat.{add-zero, add-assoc, sub-zero}
 use native.Mathlib.Omega.{arith}
 use borrow.Author.Tests.{eqb-true}
 use lib.Dec.{eqb, ltb}
-use lib.ListN.{length, drop, length-drop}
+use lib.ListN.{length, drop, length-drop, drop-of-length-le}
 use lib.Seq.{getD-drop}
 use Rattle.laws.proofs.Bools.{by-test}
 use Rattle.machine.specs.Stream.{Bytes, byte, eight, decodeAt}
@@ -18,6 +18,11 @@ use Rattle.wire.specs.Wire.{widthOf, shortOf, valuedOf}
 pub decode-rest : (s : Bytes) (at : ℕ) → decodeAt (drop at s) 0 ≡ decodeAt s at
 unfolding decodeAt eight
 decode-rest s at = simp (getD-drop, length-drop, add-zero, add-assoc, sub-zero)
+
+-- past the end there is none
+pub decode-past : (s : Bytes) (at : ℕ) → length s ≤ at → decodeAt s at ≡ Stop 2
+unfolding decodeAt
+decode-past s at h = sym (decode-rest s at) ∙ rw (drop-of-length-le s)
 
 -- a byte that is known tells how far the bytes reach
 pub reach : {b k n : ℕ} → b ≡ k → widthOf b ≤ n → widthOf k ≤ n

@@ -145,12 +145,34 @@ fn decode_first(rest: &[u8]) -> Decoded
     Decoded::Known(valued_command(rest), width)
 }
 
-// What stands at a position of the stream.
-pub fn decode(input: &[u8], at: usize) -> Decoded
-    requires { ⌜ at < length (now input) ⌝ }
+// What stands at a position of the stream. Past the end there is no byte, and so none of a command.
+fn decode(input: &[u8], at: usize) -> Decoded
     ensures { λ r. ⌜ r ≡ decodeAt (now (input .entry)) at ⌝ }
 {
+    if input.len() <= at {
+        return Decoded::Stop(2);
+    }
     decode_first(&input[at..])
+}
+
+// The caller's bytes and the position of the next command.
+pub struct Reader<'a> {
+    pub input: &'a [u8],
+    pub at: usize,
+}
+
+// What stands where the reader is.
+pub fn next_command<'a>(reader: Reader<'a>) -> Decoded
+    ensures { λ r. ⌜ r ≡ decodeAt (now (reader .entry .input)) (reader .entry .at) ⌝ }
+{
+    decode(reader.input, reader.at)
+}
+
+// The same of bytes and a position: a reader is made and asked.
+pub fn command_at(input: &[u8], at: usize) -> Decoded
+    ensures { λ r. ⌜ r ≡ decodeAt (now (input .entry)) at ⌝ }
+{
+    next_command(Reader { input, at })
 }
 
 // The number of a decode answer that ends the run.

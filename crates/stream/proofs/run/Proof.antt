@@ -72,7 +72,7 @@ module _ (c : tie.After-decoded Inv-loop μ-loop) where
   width = c .decoded .given .0 .1 .0
 
   found : decodeAt input (head .loop .at) ≡ Known (c .decoded .given .0 .0) width
-  found = sym (c .before .before .decode .ensures) ∙ c .decoded .given .1
+  found = sym (c .before .before .command-at .ensures) ∙ c .decoded .given .1
 
   -- what the arithmetic of a turn goes by
   record Within : Type 0 where
@@ -112,8 +112,8 @@ loop-holds c =
       rest = resume-start counts _ _ _ h;
     }
 
-decode-requires : tie.Need-decode-requires Inv-loop μ-loop
-decode-requires c κs = omega arith
+command-at-requires : tie.Need-command-at-requires Inv-loop μ-loop
+command-at-requires c κs = search needs
 
 enum-known-decoded : tie.Need-enum-known-decoded Inv-loop μ-loop
 enum-known-decoded c = c .match .keys1
@@ -138,7 +138,7 @@ returns-2 c =
     let d = c .before .before .before in
     let l = d .before .before .loop in
     let k : c .stop-number .result ≡ told .0 .0 = c .stop-number .ensures ∙ ap stopOf (told .1) in
-    rw k (over _ (l .inv) (resume-stop _ _ _ _ _ (d .before .loop-test .taken) (sym (d .decode .ensures) ∙ told .1)))
+    rw k (over _ (l .inv) (resume-stop _ _ _ _ _ (d .before .loop-test .taken) (sym (d .command-at .ensures) ∙ told .1)))
 
 -- number 4
 
@@ -217,7 +217,7 @@ run-spec =
     same-length
     returns
     loop-holds
-    decode-requires
+    command-at-requires
     enum-known-decoded
     enum-told
     stop-number-requires
