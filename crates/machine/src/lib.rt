@@ -15,6 +15,7 @@ pub struct RealAddress(pub u64);
 pub struct PhysicalAddress(pub u64);
 
 // The fields of an entry word (a sun4v TTE), from bit 63 down.
+#[repr(C)]
 pub struct Tte {
     pub v: u64,
     pub nfo: u64,

@@ -1,0 +1,11 @@
+-- The version of the library's calls as one number.
+-- Assumes nothing.
+use Prim.Native.Nat.{ℕ, _+_, _*_}
+
+-- a byte each for minor and patch
+abbrev pub versionNumber : ℕ → ℕ → ℕ → ℕ
+versionNumber major minor patch = major * 65536 + minor * 256 + patch
+
+-- 1.0.0: document 01, without the changes of document 02
+abbrev pub version : ℕ
+version = versionNumber 1 0 0

@@ -1,0 +1,220 @@
+/*
+ * t1mmu.h - the translation unit of an UltraSPARC T1 core, for C99 and C++.
+ *
+ * One core: four strands, an instruction TLB (side 0) and a data TLB (side 1) of 64 slots each. The unit has no memory of its own:
+ * the caller lends a state of T1MMU_STATE_WORDS words, a stream of commands, and room for answers.
+ *
+ *     uint64_t state[T1MMU_STATE_WORDS];
+ *     t1mmu_reset(state, T1MMU_STATE_WORDS);
+ *     struct t1mmu_report r = t1mmu_run(state, T1MMU_STATE_WORDS, commands, length, answers, room);
+ *
+ * Every call is proved equal to a definition in crates/machine/specs, in its result, in every word of the state and in every byte of
+ * the answers, for every value and every length that it may be given. The proof speaks of the ranges that a pointer and its length name:
+ *   - each range is the caller's to read, and state and output to write, for the whole of the call;
+ *   - state, input and output do not overlap; state is aligned as uint64_t is;
+ *   - with length 0 the pointer is not used, and may be null.
+ * Nothing else is asked. No call allocates, keeps a pointer, has hidden state, or does input or output: calls on different states may run
+ * in different threads at the same time.
+ *
+ * Link with libt1mmu.a (x86-64 Linux), which is written by `rt staticlib t1mmu` to target/staticlib. Of the C library it calls memset
+ * alone.
+ */
+#ifndef T1MMU_H
+#define T1MMU_H
+
+#include <stddef.h>
+#include <stdint.h>
+
+#ifdef __cplusplus
+extern "C" {
+#endif
+
+/* ---- sizes ---- */
+
+#define T1MMU_VERSION 0x010000u /* 1.0.0: major * 65536 + minor * 256 + patch */
+#define T1MMU_STATE_WORDS 640   /* 4 strands of 32 register cells, then 2 sides of 64 slots of 4 words */
+#define T1MMU_ANSWER_BYTES 24
+#define T1MMU_STRANDS 4
+#define T1MMU_SIDES 2
+#define T1MMU_SLOTS 64 /* of a side */
+
+/* ---- commands: the first byte; then the operands, one byte each unless marked 8, which is big-endian ---- */
+
+enum t1mmu_command {
+    T1MMU_WRITE = 0x01,         /* strand, register, value 8 */
+    T1MMU_INSERT = 0x02,        /* strand, side, flags (T1MMU_REAL, T1MMU_LOCKED), word 8 */
+    T1MMU_DEMAP_PAGE = 0x03,    /* strand, side, selector, flags (T1MMU_REAL), address 8 */
+    T1MMU_DEMAP_CONTEXT = 0x04, /* strand, side, selector */
+    T1MMU_DEMAP_ALL = 0x05,     /* strand, side */
+    T1MMU_INVALIDATE = 0x06,    /* side */
+    T1MMU_ACCESS = 0x07,        /* strand, kind, selector, size code, address 8 */
+    T1MMU_READ = 0x08,          /* strand, register */
+    T1MMU_POINTERS = 0x09       /* strand, side */
+};
+
+/* The bytes of each command, its first byte included. */
+#define T1MMU_WRITE_BYTES 11
+#define T1MMU_INSERT_BYTES 12
+#define T1MMU_DEMAP_PAGE_BYTES 13
+#define T1MMU_DEMAP_CONTEXT_BYTES 4
+#define T1MMU_DEMAP_ALL_BYTES 3
+#define T1MMU_INVALIDATE_BYTES 2
+#define T1MMU_ACCESS_BYTES 13
+#define T1MMU_READ_BYTES 3
+#define T1MMU_POINTERS_BYTES 3
+
+enum t1mmu_side { T1MMU_INSTRUCTION = 0, T1MMU_DATA = 1 };
+
+enum t1mmu_flag { T1MMU_REAL = 1, T1MMU_LOCKED = 2 };
+
+/* T1MMU_NUCLEUS is context 0. T1MMU_SECONDARY on the instruction side and T1MMU_NUCLEUS on a fetch in mode 0 are refused. */
+enum t1mmu_selector { T1MMU_PRIMARY = 0, T1MMU_SECONDARY = 1, T1MMU_NUCLEUS = 2 };
+
+enum t1mmu_kind { T1MMU_FETCH = 0, T1MMU_LOAD = 1, T1MMU_STORE = 2, T1MMU_ATOMIC = 3, T1MMU_NONFAULTING_LOAD = 4 };
+
+/* The size code s of an access is 2^s bytes, 0 to 3; a fetch has 2. */
+
+/* ---- registers of a strand, by number ---- */
+
+enum t1mmu_register {
+    T1MMU_PARTITION = 0,         /* 0 to 7 */
+    T1MMU_PRIMARY_CONTEXT = 1,   /* 0 to 8191 */
+    T1MMU_SECONDARY_CONTEXT = 2, /* 0 to 8191 */
+    T1MMU_MODE = 3,              /* enum t1mmu_mode */
+    T1MMU_TRANSLATION = 4,       /* T1MMU_FETCH_ON + T1MMU_DATA_ON */
+    T1MMU_ADDRESS_MASK = 5,      /* 0 or 1 */
+    T1MMU_TSB_BASE = 8,          /* to 15: T1MMU_TSB_BASE_OF; bits 63:13 base, 12:4 zero, 3:0 N */
+    T1MMU_TSB_CONFIGURATION = 16, /* to 19: T1MMU_TSB_CONFIGURATION_OF; bits 2:0 the ps0 size code, 10:8 ps1, the rest zero */
+    T1MMU_TAG_ACCESS = 20,       /* + side: address 63:13, context 12:0; any value */
+    T1MMU_FAULT_ADDRESS = 22,    /* + side: the address used; read only */
+    T1MMU_FAULT_STATUS = 24      /* + side: trap number * 256 + fault type; read only */
+};
+
+/* nonzero: 1 for the table of contexts that are not zero; ps: 0 for ps0, 1 for ps1. */
+#define T1MMU_TSB_BASE_OF(side, nonzero, ps) (T1MMU_TSB_BASE + 4 * (side) + 2 * (nonzero) + (ps))
+#define T1MMU_TSB_CONFIGURATION_OF(side, nonzero) (T1MMU_TSB_CONFIGURATION + 2 * (side) + (nonzero))
+
+enum t1mmu_mode { T1MMU_USER = 0, T1MMU_PRIVILEGED = 1, T1MMU_HYPERPRIVILEGED = 2 };
+
+enum t1mmu_translation { T1MMU_FETCH_ON = 1, T1MMU_DATA_ON = 2 };
+
+/* Size codes of an entry word and of the TSB configuration. */
+enum t1mmu_page { T1MMU_8K = 0, T1MMU_64K = 1, T1MMU_4M = 3, T1MMU_256M = 5 };
+
+/* ---- answers: 24 bytes: kind, a, b, c, four zeros, two big-endian values of 8. What is not named here is 0. ---- */
+
+enum t1mmu_answer {
+    T1MMU_DONE = 0,      /* first value, for 0x03 to 0x05: the count of entries removed */
+    T1MMU_PHYSICAL = 1,  /* a: T1MMU_CP + T1MMU_E + T1MMU_IE of the page; first value: the physical address */
+    T1MMU_TRAP = 2,      /* a: trap number; b: fault type; first value: the address used; second: the tag access after it */
+    T1MMU_VALUE = 3,     /* first value: the register; or both values: the pointers of ps0 and ps1 */
+    T1MMU_DISPLACED = 4, /* b: partition; c: 1 if real; first value: page address plus context; second: the word */
+    T1MMU_REFUSED = 5    /* a: enum t1mmu_refusal; the command changed nothing */
+};
+
+enum t1mmu_attribute { T1MMU_CP = 1, T1MMU_E = 2, T1MMU_IE = 4 };
+
+enum t1mmu_trap {
+    T1MMU_INSTRUCTION_ACCESS_EXCEPTION = 0x08,
+    T1MMU_DATA_ACCESS_EXCEPTION = 0x30,
+    T1MMU_MEM_ADDRESS_NOT_ALIGNED = 0x34,
+    T1MMU_PRIVILEGED_ACTION = 0x37,
+    T1MMU_INSTRUCTION_REAL_TRANSLATION_MISS = 0x3E,
+    T1MMU_DATA_REAL_TRANSLATION_MISS = 0x3F,
+    T1MMU_FAST_INSTRUCTION_ACCESS_MMU_MISS = 0x64,
+    T1MMU_FAST_DATA_ACCESS_MMU_MISS = 0x68,
+    T1MMU_FAST_DATA_ACCESS_PROTECTION = 0x6C
+};
+
+/* The fault type of an access exception: a sum of the first four, or the last alone. Other traps have 0. */
+enum t1mmu_fault {
+    T1MMU_FAULT_PRIVILEGED = 0x01,     /* a page with p 1 in mode 0 */
+    T1MMU_FAULT_SIDE_EFFECT = 0x02,    /* a nonfaulting load of a page with e 1 */
+    T1MMU_FAULT_UNCACHEABLE = 0x04,    /* an atomic access to a page with cp 0 */
+    T1MMU_FAULT_NONFAULTING_ONLY = 0x10, /* a page with nfo 1, and no nonfaulting load */
+    T1MMU_FAULT_OUT_OF_RANGE = 0x20    /* an address from 2^47 to 2^64 - 2^47 - 1 */
+};
+
+/* Why a command that was taken did not act. The lowest number that fails is answered. */
+enum t1mmu_refusal {
+    T1MMU_REFUSED_STRAND = 5,
+    T1MMU_REFUSED_SIDE = 6, /* or the kind of an access */
+    T1MMU_REFUSED_SELECTOR = 7,
+    T1MMU_REFUSED_OPERAND = 8, /* unused flag bits, or the size of an access */
+    T1MMU_REFUSED_REGISTER = 9,
+    T1MMU_REFUSED_VALUE = 10,
+    T1MMU_REFUSED_ADDRESS = 11,
+    T1MMU_REFUSED_WORD = 12,
+    T1MMU_REFUSED_NO_SLOT = 13
+};
+
+/* Why a run ended. */
+enum t1mmu_stop {
+    T1MMU_END = 0,             /* at the end of the input */
+    T1MMU_STOP_UNSOUND = 1,    /* the state is not sound, a wrong length included; tested once and first, and nothing changed */
+    T1MMU_STOP_UNKNOWN = 2,    /* before a command whose byte is not 0x01 to 0x09 */
+    T1MMU_STOP_INCOMPLETE = 3, /* before a command that lacks operand bytes */
+    T1MMU_STOP_NO_ROOM = 4     /* before a command for whose answer fewer than 24 bytes are left */
+};
+
+/* ---- calls ---- */
+
+/* What a run returns beside the state and the answers. */
+struct t1mmu_report {
+    size_t answered; /* commands taken, each with its answer */
+    size_t taken;    /* bytes of the input that they had */
+    uint8_t stop;    /* enum t1mmu_stop */
+};
+
+/* The fields of an entry word (a sun4v TTE), from bit 63 down. address is bits 55:13 of the word: shift it left by 13 for bytes. */
+struct t1mmu_tte {
+    uint64_t v;       /* bit 63 */
+    uint64_t nfo;     /* bit 62 */
+    uint64_t soft2;   /* bits 61:56 */
+    uint64_t address; /* bits 55:13 */
+    uint64_t ie;      /* bit 12 */
+    uint64_t e;       /* bit 11 */
+    uint64_t cp;      /* bit 10 */
+    uint64_t cv;      /* bit 9 */
+    uint64_t p;       /* bit 8 */
+    uint64_t ep;      /* bit 7 */
+    uint64_t w;       /* bit 6 */
+    uint64_t soft;    /* bits 5:4 */
+    uint64_t size;    /* bits 3:0 */
+};
+
+/* The version of the library that is linked; T1MMU_VERSION is that of this header. (specs: version) */
+uint32_t t1mmu_version(void);
+
+/* The words of a state: T1MMU_STATE_WORDS. (specs: stateWords counts) */
+size_t t1mmu_state_words(void);
+
+/*
+ * Writes the reset state: all zero, every strand in mode 2, both sides empty. Returns 0.
+ * With words other than T1MMU_STATE_WORDS it changes nothing and returns 1. (specs: resetOf, resetNumber)
+ */
+uint8_t t1mmu_reset(uint64_t *state, size_t words);
+
+/*
+ * Takes command after command from the input, and writes an answer of 24 bytes for each behind the last one in the output. It ends at
+ * the end of the input, or before the first command that is unknown, incomplete, or without room for its answer; that command is neither
+ * counted nor taken, and earlier ones keep their effect. A refused command is answered and stepped over, and changes nothing in the state.
+ * A state that is not sound, of a wrong length too, stops the run with 1 at once: state and output stay as they are.
+ * Output behind the answers keeps its bytes. A sound state is sound after every run. (specs: runOf)
+ */
+struct t1mmu_report t1mmu_run(uint64_t *state, size_t words, const uint8_t *input, size_t length, uint8_t *output, size_t room);
+
+/* All fields of an entry word; t1mmu_pack of them is the word again. (specs: unpacked) */
+struct t1mmu_tte t1mmu_unpack(uint64_t word);
+
+/*
+ * The entry word of the fields. Of a field only the bits of its width are taken; where every field fits its width, t1mmu_unpack of the
+ * word gives them back. Any word is packed, also one that an insertion refuses. (specs: packed)
+ */
+uint64_t t1mmu_pack(struct t1mmu_tte fields);
+
+#ifdef __cplusplus
+}
+#endif
+
+#endif

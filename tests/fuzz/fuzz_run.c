@@ -1,0 +1,333 @@
+/*
+ * A fuzz target over t1mmu_run: a state and a stream are made from the fuzzer's bytes, and what must hold of every run is asked of it.
+ * The library has no coverage counters of its own, so the fuzzer is guided by what it answers: a counter for each command, kind of
+ * answer and number in it, and for each stop.
+ */
+#include "../lent.h"
+
+#include "t1mmu.h"
+
+#define WORDS T1MMU_STATE_WORDS
+#define MOST_INPUT 16384u
+#define MOST_OUTPUT 4096u
+
+#ifdef EXTRA_COUNTERS
+__attribute__((section("__libfuzzer_extra_counters")))
+#endif
+static uint8_t seen[16 * 8 * 128 + 8];
+
+#define HOLDS(fact) ((fact) ? (void)0 : fail(#fact, __LINE__))
+
+static void fail(const char *fact, int line)
+{
+    fprintf(stderr, "fuzz_run.c:%d: does not hold: %s\n", line, fact);
+    abort();
+}
+
+/* ---- the fuzzer's bytes, zeros behind their end ---- */
+
+struct source {
+    const uint8_t *at, *end;
+};
+
+static unsigned draw(struct source *s) { return s->at < s->end ? *s->at++ : 0; }
+
+static uint64_t draw8(struct source *s)
+{
+    uint64_t v = 0;
+    for (int i = 0; i < 8; i++)
+        v = v << 8 | draw(s);
+    return v;
+}
+
+/* ---- streams: bytes as they come, or commands of mostly plausible operands ---- */
+
+struct stream {
+    uint8_t bytes[MOST_INPUT];
+    size_t length;
+};
+
+static void put(struct stream *t, unsigned byte)
+{
+    if (t->length < MOST_INPUT)
+        t->bytes[t->length++] = (uint8_t)byte;
+}
+
+static void put8(struct stream *t, uint64_t v)
+{
+    for (int shift = 56; shift >= 0; shift -= 8)
+        put(t, (unsigned)(v >> shift) & 0xff);
+}
+
+/* Below n, but for one byte in 64, which stays as it is. */
+static unsigned mostly(struct source *s, unsigned n)
+{
+    unsigned b = draw(s);
+    return b >= 252 ? b : b % n;
+}
+
+/* Few pages, near each other and at the ends of the ranges, so that entries meet; now and then any address. */
+static uint64_t address(struct source *s)
+{
+    static const uint64_t base[8] = {0, 0x400000, 0x10000000, 0x7ffff0000000, 0xffff800000000000, 0xfffffffff0000000, 0x8000000000, 0x800000000000};
+    unsigned b = draw(s);
+    if (b >= 250)
+        return draw8(s);
+    return base[b % 8] + (uint64_t)(b / 8) * 0x2000 + (draw(s) & 0xf8);
+}
+
+static uint64_t entry_word(struct source *s)
+{
+    static const unsigned code[4] = {0, 1, 3, 5};
+    unsigned b = draw(s), flags = draw(s);
+    uint64_t v = b < 250, nfo = flags >> 7;
+    return b == 255 ? draw8(s) : v << 63 | nfo << 62 | (uint64_t)draw(s) << 28 | (uint64_t)draw(s) << 13 | (flags & 0x7f) << 6 | code[b % 4];
+}
+
+static uint64_t value(struct source *s, unsigned number)
+{
+    static const uint64_t limit[6] = {8, 8192, 8192, 3, 4, 2};
+    if (number < 6)
+        return mostly(s, 4) % limit[number];
+    if (number < 16)
+        return (uint64_t)draw(s) << 13 | (draw(s) & 0x0f);
+    if (number < 20)
+        return (draw(s) & 1) | (draw(s) & 1) * 0x300u;
+    return address(s) / 0x2000 * 0x2000 + mostly(s, 3);
+}
+
+static void put_write(struct source *s, struct stream *t)
+{
+    unsigned strand = mostly(s, 4), number = draw(s) % 26;
+    put(t, T1MMU_WRITE);
+    put(t, strand);
+    put(t, number);
+    put8(t, draw(s) == 255 ? draw8(s) : value(s, number));
+}
+
+/* Tag access and an insertion, for n pages one behind the other. */
+static void put_inserts(struct source *s, struct stream *t, unsigned n)
+{
+    unsigned strand = mostly(s, 4), side = mostly(s, 2), flags = mostly(s, 4), context = mostly(s, 3);
+    uint64_t first = address(s), word = entry_word(s);
+    for (unsigned i = 0; i < n; i++) {
+        put(t, T1MMU_WRITE);
+        put(t, strand);
+        put(t, T1MMU_TAG_ACCESS + (side & 1));
+        put8(t, ((first / 0x2000 + i) * 0x2000) + context);
+        put(t, T1MMU_INSERT);
+        put(t, strand);
+        put(t, side);
+        put(t, flags);
+        put8(t, word);
+    }
+}
+
+static void put_access(struct source *s, struct stream *t)
+{
+    unsigned strand = mostly(s, 4), kind = mostly(s, 5);
+    put(t, T1MMU_ACCESS);
+    put(t, strand);
+    put(t, kind);
+    put(t, mostly(s, 3));
+    put(t, kind == T1MMU_FETCH ? 2 : mostly(s, 4));
+    put8(t, address(s) + (draw(s) == 255));
+}
+
+/* A command without 8-byte values, or a demap of a page. */
+static void put_other(struct source *s, struct stream *t, unsigned command)
+{
+    put(t, command);
+    if (command != T1MMU_INVALIDATE)
+        put(t, mostly(s, 4));
+    put(t, command == T1MMU_READ ? draw(s) % 27 : mostly(s, 2));
+    if (command == T1MMU_DEMAP_PAGE || command == T1MMU_DEMAP_CONTEXT)
+        put(t, mostly(s, 3));
+    if (command == T1MMU_DEMAP_PAGE) {
+        put(t, mostly(s, 2));
+        put8(t, address(s));
+    }
+}
+
+static void put_command(struct source *s, struct stream *t)
+{
+    unsigned choice = draw(s) % 16;
+    if (choice < 4)
+        put_write(s, t);
+    else if (choice < 7)
+        put_inserts(s, t, 1);
+    else if (choice == 7)
+        put_inserts(s, t, draw(s) % 70);
+    else if (choice < 11)
+        put_access(s, t);
+    else
+        put_other(s, t, choice < 14 ? choice - 8 : choice == 14 ? T1MMU_READ + (draw(s) & 1) : T1MMU_INVALIDATE);
+}
+
+static void shape(struct source *s, struct stream *t, unsigned commands)
+{
+    for (unsigned i = 0; i < commands && s->at < s->end; i++)
+        put_command(s, t);
+}
+
+/* ---- the state: reset, after a first run, changed words, or another length ---- */
+
+static struct lent state, input, output;
+static uint64_t before[WORDS * 2], copy[WORDS * 2];
+static struct stream first, second;
+static uint8_t room_before[MOST_OUTPUT], copied[MOST_OUTPUT], scratch[MOST_INPUT / 2 * T1MMU_ANSWER_BYTES];
+
+static uint64_t *words(void) { return (uint64_t *)(void *)state.bytes; }
+
+/* Whether the state must be sound. */
+static int make_state(struct source *s, unsigned plan, int upper)
+{
+    static const size_t other[4] = {0, 1, WORDS - 1, WORDS + 1};
+    if (plan == 3) {
+        lent_place(&state, other[draw(s) % 4] * 8, upper);
+        memset(state.bytes, 0, state.length);
+        return 0;
+    }
+    lent_place(&state, WORDS * 8, upper);
+    HOLDS(t1mmu_reset(words(), WORDS) == 0);
+    first.length = 0;
+    if (plan != 0)
+        shape(s, &first, draw(s) % 32);
+    HOLDS(t1mmu_run(words(), WORDS, first.bytes, first.length, scratch, sizeof scratch).stop != T1MMU_STOP_UNSOUND);
+    if (plan != 2)
+        return 1;
+    for (unsigned n = draw(s) % 8 + 1; n > 0; n--) {
+        size_t i = (draw(s) * 256u + draw(s)) % WORDS;
+        words()[i] = draw(s) & 1 ? draw8(s) : words()[i] ^ (UINT64_C(1) << draw(s) % 64);
+    }
+    return 0;
+}
+
+/* ---- what must hold ---- */
+
+static int known_trap(unsigned n)
+{
+    return n == 0x08 || n == 0x30 || n == 0x34 || n == 0x37 || n == 0x3e || n == 0x3f || n == 0x64 || n == 0x68 || n == 0x6c;
+}
+
+static void judge_answer(unsigned command, const uint8_t *a)
+{
+    HOLDS(a[0] <= 5 && a[4] == 0 && a[5] == 0 && a[6] == 0 && a[7] == 0);
+    if (a[0] == T1MMU_PHYSICAL)
+        HOLDS(command == T1MMU_ACCESS && a[8] == 0 && a[9] == 0 && a[10] == 0 && a[1] < 8);
+    if (a[0] == T1MMU_TRAP)
+        HOLDS(command == T1MMU_ACCESS && known_trap(a[1]));
+    if (a[0] == T1MMU_VALUE)
+        HOLDS(command == T1MMU_READ || command == T1MMU_POINTERS);
+    if (a[0] == T1MMU_DISPLACED)
+        HOLDS(command == T1MMU_INSERT && a[2] < 8 && a[3] < 2 && a[16] >> 7 == 1);
+    if (a[0] == T1MMU_REFUSED)
+        HOLDS(5 <= a[1] && a[1] <= 13);
+    seen[(command * 8u + a[0]) * 128 + ((a[1] ^ a[2] << 1) & 127)] = 1;
+}
+
+/* The bytes of each command, by its first byte. */
+static const uint8_t width[10] = {0, 11, 12, 13, 4, 3, 2, 13, 3, 3};
+
+static void judge_answers(size_t answered, size_t taken)
+{
+    size_t at = 0;
+    for (size_t i = 0; i < answered; i++) {
+        HOLDS(at < input.length && 1 <= input.bytes[at] && input.bytes[at] <= 9);
+        judge_answer(input.bytes[at], output.bytes + i * T1MMU_ANSWER_BYTES);
+        at += width[input.bytes[at]];
+    }
+    HOLDS(at == taken);
+}
+
+/* Bytes of the lent buffers that no run may change. */
+static void judge_kept(struct t1mmu_report r)
+{
+    size_t written = r.answered * T1MMU_ANSWER_BYTES;
+    HOLDS(lent_whole(&state) && lent_whole(&input) && lent_whole(&output));
+    HOLDS(memcmp(input.bytes, second.bytes, input.length) == 0);
+    HOLDS(r.taken <= input.length && written <= output.length);
+    HOLDS(memcmp(output.bytes + written, room_before + written, output.length - written) == 0);
+}
+
+/* The stop of a run that has taken some bytes, by the byte behind them. */
+static unsigned stop_at(size_t taken, size_t answered)
+{
+    if (taken == input.length)
+        return T1MMU_END;
+    unsigned command = input.bytes[taken];
+    if (command < 1 || 9 < command)
+        return T1MMU_STOP_UNKNOWN;
+    if (input.length - taken < width[command])
+        return T1MMU_STOP_INCOMPLETE;
+    HOLDS(output.length - answered * T1MMU_ANSWER_BYTES < T1MMU_ANSWER_BYTES);
+    return T1MMU_STOP_NO_ROOM;
+}
+
+static void judge_stop(struct t1mmu_report r, int sound)
+{
+    HOLDS(r.stop == T1MMU_STOP_UNSOUND ? !sound : r.stop == stop_at(r.taken, r.answered));
+    if (r.stop == T1MMU_STOP_UNSOUND)
+        HOLDS(r.answered == 0 && r.taken == 0 && memcmp(state.bytes, before, state.length) == 0);
+    else
+        HOLDS(t1mmu_run(words(), state.length / 8, NULL, 0, NULL, 0).stop == T1MMU_END);
+    seen[sizeof seen - 8 + r.stop] = 1;
+}
+
+/* The same run once more, and in two parts, on a copy of the state and of the output: nothing differs. */
+static void judge_again(struct t1mmu_report r, unsigned part)
+{
+    size_t n = state.length / 8, half = r.answered * part / 256 * T1MMU_ANSWER_BYTES;
+    memcpy(copy, before, state.length);
+    memcpy(copied, room_before, output.length);
+    struct t1mmu_report q = t1mmu_run(copy, n, input.bytes, input.length, copied, output.length);
+    HOLDS(q.answered == r.answered && q.taken == r.taken && q.stop == r.stop);
+    HOLDS(memcmp(copy, state.bytes, state.length) == 0 && memcmp(copied, output.bytes, output.length) == 0);
+    if (r.stop == T1MMU_STOP_UNSOUND)
+        return;
+    memcpy(copy, before, state.length);
+    memcpy(copied, room_before, output.length);
+    struct t1mmu_report a = t1mmu_run(copy, n, input.bytes, input.length, copied, half);
+    struct t1mmu_report b = t1mmu_run(copy, n, input.bytes + a.taken, input.length - a.taken, copied + half, output.length - half);
+    HOLDS(a.answered + b.answered == r.answered && a.taken + b.taken == r.taken && b.stop == r.stop);
+    HOLDS(memcmp(copy, state.bytes, state.length) == 0 && memcmp(copied, output.bytes, output.length) == 0);
+}
+
+/* ---- one run ---- */
+
+static void make_buffers(struct source *s, int raw, int upper)
+{
+    size_t room = (draw(s) * 256u + draw(s)) % MOST_OUTPUT;
+    second.length = 0;
+    if (raw)
+        while (s->at < s->end)
+            put(&second, draw(s));
+    else
+        shape(s, &second, 64);
+    lent_place(&input, second.length, upper);
+    memcpy(input.bytes, second.bytes, second.length);
+    lent_place(&output, room, upper);
+    for (size_t i = 0; i < room; i++)
+        output.bytes[i] = room_before[i] = (uint8_t)(i * 7 + 1);
+}
+
+int LLVMFuzzerTestOneInput(const uint8_t *data, size_t size)
+{
+    struct source s = {data, data + size};
+    if (state.open == NULL) {
+        state = lent_new((WORDS + 1) * 8);
+        input = lent_new(MOST_INPUT);
+        output = lent_new(MOST_OUTPUT);
+    }
+    memset(seen, 0, sizeof seen);
+    unsigned plan = draw(&s), part = draw(&s);
+    int sound = make_state(&s, plan & 3, plan >> 2 & 1);
+    make_buffers(&s, plan >> 3 & 1, plan >> 2 & 1);
+    memcpy(before, state.bytes, state.length);
+    struct t1mmu_report r = t1mmu_run(words(), state.length / 8, input.bytes, input.length, output.bytes, output.length);
+    judge_kept(r);
+    judge_stop(r, sound);
+    judge_answers(r.answered, r.taken);
+    judge_again(r, part);
+    return 0;
+}
