@@ -79,7 +79,7 @@ dead-zero x h l =
     cc (eqb-true (x .owner) 0 a, eqb-true (x .page) 0 b, eqb-true (x .word) 0 c, eqb-true (x .flags) 0 d) in
     e
 
-no-slot-sound : slotSound noSlot ≡ true
+pub no-slot-sound : slotSound noSlot ≡ true
 unfolding slotSound emptySound
 no-slot-sound = refl
 

@@ -1,17 +1,17 @@
 -- What a walk of the slots asks of one slot: the owner, the page against a prepared table, then bit 63. Assumes nothing.
 use Prim.Native.Nat.{ℕ, _*_, _/_, _^_, _≤_, _<_, max}
 use mathlib.Core.Path.{_≡_, refl, ap, sym, _∙_}
-use mathlib.Core.Bool.{true, false, _&&_}
+use mathlib.Core.Bool.{true, false, _&&_, _||_}
 use mathlib.Core.List.{List}
 use native.Mathlib.Omega.{arith}
-use native.Mathlib.Nat.{div-lt-iff-lt-mul, le-trans, le-max-left, le-max-right, max-eq-left}
-use lib.Dec.{eqb}
+use native.Mathlib.Nat.{div-eq-of-lt, div-lt-iff-lt-mul, le-trans, le-max-left, le-max-right, max-eq-left}
+use lib.Dec.{eqb, ltb}
 use lib.Pow.{pow-pos}
-use lib.Bits.{bitXor, and-le-l, and-le-r, xor-add-and, xor-self, xor-shr}
+use lib.Bits.{bitXor, and-le-l, and-le-r, xor-add-and, xor-comm, xor-self, xor-shr}
 use lib.ListN.{getD, set, replicate, getD-replicate}
 use lib.Seq.{getD-set-other}
-use borrow.Author.Tests.{eqb-true, eqb-false, eq-eqb, ne-eqb}
-use Rattle.laws.proofs.Bools.{by-test, and-no}
+use borrow.Author.Tests.{eqb-true, eqb-false, eq-eqb, ne-eqb, ltb-true, ltb-false}
+use Rattle.laws.proofs.Bools.{by-test, and-no, or-comm}
 use Rattle.machine.specs.declared.Slot.{Slot}
 use Rattle.machine.specs.Pages.{pageShift, pageSize, pageStart}
 use Rattle.machine.proofs.Pages.{start-block}
@@ -77,6 +77,10 @@ near a b k e =
     let p : bitXor a b < 1 * 2 ^ k = div-lt-iff-lt-mul {y = 1} (pow-pos k) .0 (omega arith) in
     omega arith
 
+-- and the reverse
+one-block : (a b k : ℕ) → bitXor a b < 2 ^ k → a / 2 ^ k ≡ b / 2 ^ k
+one-block a b k h = xor-zero (a / 2 ^ k) (b / 2 ^ k) (sym (xor-shr a b k) ∙ div-eq-of-lt h)
+
 -- starts whose xor is the larger page size or more lie in no common page
 pub over-far : (x y : Slot) → getD (spansOf (pageSize (sizeCode x))) (sizeCode y) 0 ≤ bitXor (x .page) (y .page) → overlaps x y ≡ false
 unfolding overlaps
@@ -89,3 +93,31 @@ over-far x y h =
     ne-eqb _ _ (λ (e : pageStart (sizeCode y) (x .page) ≡ y .page).
     omega (arith, le-trans (le-max-right _ _) m, near (x .page) (y .page) (pageShift (sizeCode y)) (sym (start-block (sizeCode y) (y .page) (x .page) e)))) in
     rw (p, q, and-no (eqb (x .owner) (y .owner)), and-no (isLive y)) (and-no (isLive x))
+
+-- a page at a page start holds an address whose xor with it is below its size
+near-holds : (x : Slot) (a : ℕ) → pageStart (sizeCode x) (x .page) ≡ x .page → bitXor (x .page) a < pageSize (sizeCode x) → holds x a ≡ true
+near-holds x a s h = eq-eqb _ (x .page) (ap (λ (n : ℕ). n * pageSize (sizeCode x)) (sym (one-block (x .page) a (pageShift (sizeCode x)) h)) ∙ s)
+
+-- ---- what a walk of slots whose pages are at page starts asks: the xor of the starts, the owner, then bit 63
+module _ (x y : Slot) where
+  pub over-owner : (y .owner ≡ x .owner → ⊥) → overlaps x y ≡ false
+  unfolding overlaps
+  over-owner h = rw (ne-eqb (x .owner) (y .owner) (λ e. h (sym e)), and-no (isLive y)) (and-no (isLive x))
+
+  pub over-empty : (y .word / 2 ^ 63 ≡ 1 → ⊥) → overlaps x y ≡ false
+  unfolding overlaps
+  over-empty h = rw (ne-eqb (y .word / 2 ^ 63) 1 h) (and-no (isLive x))
+
+  pub over-near : isLive x ≡ true → y .word / 2 ^ 63 ≡ 1 → y .owner ≡ x .owner
+      → pageStart (sizeCode x) (x .page) ≡ x .page → pageStart (sizeCode y) (y .page) ≡ y .page
+      → bitXor (x .page) (y .page) < getD (spansOf (pageSize (sizeCode x))) (sizeCode y) 0 → overlaps x y ≡ true
+  unfolding overlaps
+  over-near l v o p q h =
+      let d : ℕ = bitXor (x .page) (y .page) in
+      let m : d < max (pageSize (sizeCode x)) (pageSize (sizeCode y)) = rw (span-at (sizeCode x) (sizeCode y) (omega arith)) at h in
+      rw (l, eq-eqb (y .word / 2 ^ 63) 1 v, eq-eqb (x .owner) (y .owner) (sym o))
+      (by-test (ltb d (pageSize (sizeCode x)))
+      (λ e. rw (near-holds x (y .page) p (ltb-true d (pageSize (sizeCode x)) e)))
+      (λ e.
+      let n : bitXor (y .page) (x .page) < pageSize (sizeCode y) = rw (xor-comm (y .page) (x .page)) (omega (arith, m, ltb-false d (pageSize (sizeCode x)) e)) in
+      rw (near-holds y (x .page) q n) (or-comm (holds x (y .page)) true)))

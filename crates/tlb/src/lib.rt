@@ -194,7 +194,7 @@ fn larger(a: u64, b: u64) -> u64
 }
 
 // The larger of the size and each page size, by size code.
-fn spans(size: u64) -> [u64; 16]
+pub fn spans(size: u64) -> [u64; 16]
     ensures { λ r. ⌜ r ≡ spansOf size ⌝ }
 {
     let mut span = [size; 16];

@@ -1,10 +1,11 @@
 // Soundness of the slots of one side: document 01, "Sound means". Any number of slots.
 ghost use mathlib.Core.Path.{_≡_};
 ghost use mathlib.Core.Bool.{true, false, not};
-ghost use Prim.Native.Nat.{_+_, _<_, _≤_};
+ghost use Prim.Native.Nat.{_+_, _-_, _<_, _≤_};
 ghost use lib.ListN.{drop};
-ghost use Rattle.laws.specs.Tests.{anyOf, pairwise};
-ghost use Rattle.machine.specs.Slots.{slotsOf};
+ghost use Rattle.laws.specs.Tests.{anyOf, allOf, pairwise};
+ghost use Rattle.machine.specs.Pages.{pageSize};
+ghost use Rattle.machine.specs.Slots.{slotsOf, isLive};
 ghost use Rattle.machine.specs.Insertion.{overlaps};
 ghost use Rattle.machine.specs.Sound.{ownerSound, pageSound, liveSound, emptySound, slotSound, sideSound};
 ghost use Rattle.tlb_sound.specs.Buckets.{largestCode, blockShift, bucketOf};
@@ -23,6 +24,19 @@ pub fn owner_sound(x: Slot) -> bool
     x.owner % 0x2000 == 0
 }
 
+// The bits of an address below a page start, by size code.
+fn page_mask(code: u64) -> u64
+    ensures { λ r. ⌜ r ≡ pageSize code - 1 ⌝ }
+{
+    match code {
+        0 => 0x1FFF,
+        1 => 0xFFFF,
+        3 => 0x3F_FFFF,
+        5 => 0xFFF_FFFF,
+        _ => 0,
+    }
+}
+
 // In range and at a page start.
 pub fn page_sound(x: Slot) -> bool
     ensures { λ r. ⌜ r ≡ pageSound x ⌝ }
@@ -30,7 +44,7 @@ pub fn page_sound(x: Slot) -> bool
     if !pages::in_range(x.page) {
         return false;
     }
-    x.page & (pages::page_size(x.word % 16) - 1) == 0
+    x.page & page_mask(x.word % 16) == 0
 }
 
 fn live_sound(x: Slot) -> bool
@@ -108,19 +122,47 @@ pub fn bucket(owner: u64, page: u64, shift: u64) -> usize
     ((page >> shift ^ mixed) % 1024) as usize
 }
 
-// Whether x overlaps none of the slots from the one given on, where a slot that has its bucket for itself is known to overlap none.
-fn shared_overlaps_none(slots: &[u64], x: Slot, from: usize, shared: bool) -> bool
-    requires { ⌜ (shared ≡ false → anyOf (overlaps x) (drop from (slotsOf (now slots))) ≡ false) ⌝ }
+// Whether a live x overlaps none of the slots from the one given on. All are sound.
+fn clear_of_later(slots: &[u64], x: Slot, from: usize) -> bool
+    requires { ⌜ (isLive x ≡ true) × (slotSound x ≡ true) × (allOf slotSound (slotsOf (now slots)) ≡ true) ⌝ }
     ensures { λ r. ⌜ r ≡ not (anyOf (overlaps x) (drop from (slotsOf (now (slots .entry))))) ⌝ }
 {
-    if shared {
-        return tlb::overlaps_none(slots, x, from);
+    let span = tlb::spans(pages::page_size(x.word % 16));
+    let n = slots.len() / 4;
+    let mut j = from;
+    while j < n {
+        let k = j * 4;
+        let word = slots[k + 2];
+        let code = (word % 16) as usize;
+        let distance = x.page ^ slots[k + 1];
+        // page starts lie in a common page where their xor is below the larger page size
+        if distance < span[code] {
+            if slots[k] == x.owner {
+                // an empty slot looks like owner 0, page 0
+                if word >> 63 == 1 {
+                    return false;
+                }
+            }
+        }
+        j += 1;
     }
     true
 }
 
-// Whether no two slots overlap, from the last slot to the first.
-pub fn overlap_free(slots: &[u64]) -> bool
+// The same, where a slot that has its bucket for itself is known to overlap none.
+fn shared_overlaps_none(slots: &[u64], x: Slot, from: usize, shared: bool) -> bool
+    requires { ⌜ (isLive x ≡ true) × (slotSound x ≡ true) × (allOf slotSound (slotsOf (now slots)) ≡ true) × (shared ≡ false → anyOf (overlaps x) (drop from (slotsOf (now slots))) ≡ false) ⌝ }
+    ensures { λ r. ⌜ r ≡ not (anyOf (overlaps x) (drop from (slotsOf (now (slots .entry))))) ⌝ }
+{
+    if shared {
+        return clear_of_later(slots, x, from);
+    }
+    true
+}
+
+// Whether no two of the slots, each sound by itself, overlap: from the last slot to the first.
+fn overlap_free(slots: &[u64]) -> bool
+    requires { ⌜ allOf slotSound (slotsOf (now slots)) ≡ true ⌝ }
     ensures { λ r. ⌜ r ≡ pairwise overlaps (slotsOf (now (slots .entry))) ⌝ }
 {
     let most = block_shift(code_bound(slots));

@@ -5,13 +5,16 @@ use mathlib.Core.Path.{_≡_, sym, ap, _∙_}
 use mathlib.Core.Bool.{true, false}
 use native.Mathlib.Omega.{arith}
 use borrow.Author.Needs.{needs}
-use borrow.Author.Tests.{ne-eqb, not-true, not-false}
+use borrow.Author.Tests.{eq-eqb, ne-eqb, not-true, not-false}
 use lib.ListN.{length, drop, getD, replicate, length-set, length-replicate}
 use Rattle.laws.specs.Tests.{anyOf, pairwise}
+use Rattle.laws.proofs.Alls.{all-get}
 use Rattle.laws.proofs.Bools.{denies-true, denies-false}
 use Rattle.laws.proofs.Walks.{pair-fail, pair-pass, pair-end, pair-drop}
 use Rattle.machine.specs.Slots.{slotsOf, noSlot, isLive}
 use Rattle.machine.specs.Insertion.{overlaps}
+use Rattle.machine.specs.Sound.{slotSound}
+use Rattle.machine.proofs.Sound.{no-slot-sound}
 use Rattle.machine.proofs.Slots.{slots-length}
 use Rattle.tlb_sound.specs.Buckets.{bucketOf, inBucket}
 use Rattle.tlb_sound.proofs.Buckets.{Wide, block-wide, block-small, empty-overlaps, bucket-small, Marked, none-marked, mark-empty, mark-live, alone}
@@ -84,9 +87,10 @@ array-read-shared-overlaps-none : tie.Need-array-read-shared-overlaps-none Inv-l
 array-read-shared-overlaps-none c = rw (c .bucket .ensures) (bucket-small _ _ _)
 
 shared-overlaps-none-requires : tie.Need-shared-overlaps-none-requires Inv-loop μ-loop
-shared-overlaps-none-requires c κs e =
+shared-overlaps-none-requires c κs =
     let t = c .before .before .before in
     let at = t .before .before in
+    let f = at .before .before .before .before in
     let code = at .before .before .code-bound in
     let most = at .before .block-shift .result in
     let wide : Wide (code .result) most = λ n h. rw (at .before .block-shift .ensures) (block-wide (code .result) n h) in
@@ -94,9 +98,13 @@ shared-overlaps-none-requires c κs e =
     let j = at .loop .i - 1 in
     let is = t .slot-at .ensures in
     let b : c .bucket .result ≡ bucketOf most (getD s j noSlot .owner) (getD s j noSlot .page) =
-    c .bucket .ensures ∙ ap (λ x. bucketOf most (x .owner) (x .page)) is in
-    ap (λ x. anyOf (overlaps x) (drop (j + 1) s)) is
-    ∙ alone most (at .loop .seen) s j (within t) (later t) (code .result) wide (code .ensures) (ap (λ n. getD (at .loop .seen) n false) (sym b) ∙ e)
+    c .bucket .ensures ∙ ap (λ x. bucketOf most (x .owner) (x .page)) is in (
+      eq-eqb _ _ (c .before .if1 .taken),
+      ap slotSound is ∙ all-get slotSound noSlot s j no-slot-sound (f .pre),
+      f .pre,
+      λ e. ap (λ x. anyOf (overlaps x) (drop (j + 1) s)) is
+          ∙ alone most (at .loop .seen) s j (within t) (later t) (code .result) wide (code .ensures) (ap (λ n. getD (at .loop .seen) n false) (sym b) ∙ e),
+    )
 
 returns : tie.Need-returns Inv-loop μ-loop
 returns c =

@@ -5,14 +5,16 @@ use borrow.Author.Needs.{needs}
 use Rattle.tlb_sound.proofs.shared_overlaps_none.Statement.{statement}
 use Rattle.tlb_sound.proofs.shared_overlaps_none.Tie as tie
 
-overlaps-none-requires : tie.Need-overlaps-none-requires
-overlaps-none-requires c κs = search needs
+clear-of-later-requires : tie.Need-clear-of-later-requires
+clear-of-later-requires c κs =
+    let p = c .before .before .pre in
+    (p .0, p .1, p .2)
 
 returns : tie.Need-returns
 returns c = search needs
 
 returns-2 : tie.Need-returns-2
-returns-2 c = ap not (sym (c .before .before .pre (c .if1 .left)))
+returns-2 c = ap not (sym (c .before .before .pre .3 (c .if1 .left)))
 
 pub shared-overlaps-none-spec : {M : Type 1} → statement M
-shared-overlaps-none-spec = tie.close (tie.spec overlaps-none-requires returns returns-2)
+shared-overlaps-none-spec = tie.close (tie.spec clear-of-later-requires returns returns-2)

@@ -53,16 +53,19 @@ loop-again c =
     let h = ap slotSound (sym (c .before .before .slot-at .ensures)) ∙ sym (r .ensures) ∙ not-false _ (c .if1 .left) in
     (omega arith, at .loop .inv .1 ∙ all-pass noSlot (slotsOf l) (at .loop .i) slotSound (omega (arith, slots-length l)) h)
 
+-- past the last slot: all are sound
+all-sound : (c : tie.After-loop Inv-loop μ-loop) → allOf slotSound (slotsOf (c .before .before .before .args .slots .now)) ≡ true
+all-sound c =
+    let at = c .before in
+    let l = at .before .before .args .slots .now in
+    at .loop .inv .1 ∙ all-end noSlot (slotsOf l) (at .loop .i) slotSound (omega (arith, slots-length l))
+
 overlap-free-requires : tie.Need-overlap-free-requires Inv-loop μ-loop
-overlap-free-requires c κs = search needs
+overlap-free-requires c κs = all-sound c
 
 returns-2 : tie.Need-returns-2 Inv-loop μ-loop
 unfolding sideSound
-returns-2 c =
-    let at = c .before .before in
-    let l = at .before .before .args .slots .now in
-    let t : allOf slotSound (slotsOf l) ≡ true = at .loop .inv .1 ∙ all-end noSlot (slotsOf l) (at .loop .i) slotSound (omega (arith, slots-length l)) in
-    c .overlap-free .ensures ∙ rw t
+returns-2 c = c .overlap-free .ensures ∙ rw (all-sound (c .before))
 
 pub side-sound-spec : {M : Type 1} → statement M
 side-sound-spec =
