@@ -1,0 +1,15 @@
+#!/usr/bin/env bash
+# One table, in markdown: the proved library beside a plain Rust and a plain C unit. Nanoseconds are the best of many rounds in which the
+# three take turns, instructions are callgrind's (no figure without valgrind). T1MMU_LIB names a folder with a libt1mmu.a that is built.
+set -euo pipefail
+cd "$(dirname "$0")/.."
+mkdir -p target/bench
+if [ -z "${T1MMU_LIB:-}" ]; then
+    rt staticlib t1mmu >target/bench/staticlib.log 2>&1 || { cat target/bench/staticlib.log; exit 1; }
+    T1MMU_LIB=$PWD/target/staticlib
+fi
+gcc -O3 -std=c11 -Wall -Wextra -c bench/plain.c -o target/bench/plain.o
+ar rcs target/bench/libplain.a target/bench/plain.o
+export T1MMU_LIB PLAIN_LIB=$PWD/target/bench CARGO_TARGET_DIR=$PWD/target/bench
+cargo build --release --offline --quiet --manifest-path bench/Cargo.toml
+target/bench/release/bench "$@"

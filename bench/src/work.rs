@@ -1,0 +1,207 @@
+//! What is measured: a start state, and the inputs of one pass over it.
+
+const TAG: u64 = 0x1000_0000;
+const CONTEXT: u64 = 5;
+/// Commands of a pass, but for the longest runs.
+const PASS: usize = 4096;
+
+pub struct Work {
+    pub name: String,
+    pub words: Vec<u64>,
+    /// what the figures are divided by
+    pub units: usize,
+    /// the library's share of the plain Rust unit's time that is to be reached
+    pub goal: f64,
+    inputs: Box<dyn Fn() -> Vec<Vec<u8>>>,
+}
+
+impl Work {
+    /// The inputs of one pass; made on demand, since callgrind's runs want one work's alone.
+    pub fn runs(&self) -> Vec<Vec<u8>> {
+        (self.inputs)()
+    }
+}
+
+struct Random(u64);
+
+impl Random {
+    fn below(&mut self, n: usize) -> usize {
+        self.0 ^= self.0 << 13;
+        self.0 ^= self.0 >> 7;
+        self.0 ^= self.0 << 17;
+        (self.0 % n as u64) as usize
+    }
+}
+
+#[derive(Clone, Copy, PartialEq)]
+pub enum Population {
+    /// 8 KB pages of one guest side by side
+    OneGuest,
+    /// eight partitions, their 8 KB pages apart
+    EightPartitions,
+    /// one guest, the four sizes in turn
+    FourSizes,
+    /// one guest, a 256 MB page and 8 KB pages within 256 MB: most pairs share a bucket
+    Worst,
+}
+
+/// Owner, page and word of the q-th entry.
+fn entry(population: Population, q: u64) -> [u64; 3] {
+    let word = 1 << 63 | q << 29 | 0x440;
+    let virtual_of = |partition: u64| partition << 14 | CONTEXT;
+    match population {
+        Population::OneGuest => [virtual_of(0), TAG + q * 0x2000, word],
+        Population::EightPartitions => [virtual_of(q % 8), TAG + q * 0x2000, word],
+        Population::FourSizes => [virtual_of(0), (q + 1) << 28, word | [0, 1, 3, 5][q as usize % 4]],
+        Population::Worst if q == 0 => [virtual_of(0), 0x8000_0000, word | 5],
+        Population::Worst => [virtual_of(0), TAG + q * 0x2000, word],
+    }
+}
+
+/// Both sides full, in the same shuffled order, used bits set; strand s has partition 2 s where there are eight.
+fn state(population: Population) -> Vec<u64> {
+    let mut r = Random(88172645463325252);
+    let mut words = vec![0; 640];
+    for strand in 0..4 {
+        let cells = &mut words[32 * strand..];
+        cells[0] = if population == Population::EightPartitions { 2 * strand as u64 } else { 0 };
+        cells[1] = CONTEXT;
+        cells[2] = CONTEXT + 1;
+        cells[3] = 1;
+        cells[4] = 3;
+        cells[20] = TAG | CONTEXT;
+        cells[21] = TAG | CONTEXT;
+    }
+    let mut places: Vec<usize> = (0..64).collect();
+    (1..64).rev().for_each(|i| places.swap(i, r.below(i + 1)));
+    for side in 0..2 {
+        for (q, place) in places.iter().enumerate() {
+            let [owner, page, word] = entry(population, q as u64);
+            words[128 + 256 * side + 4 * place..][..4].copy_from_slice(&[owner, page, word, 2]);
+        }
+    }
+    words
+}
+
+fn with(head: &[u8], value: u64) -> Vec<u8> {
+    [head, &value.to_be_bytes()[..]].concat()
+}
+
+fn load(strand: u64, address: u64) -> Vec<u8> {
+    with(&[7, strand as u8, 1, 0, 3], address)
+}
+
+/// A load that hits a random live entry of the data side.
+fn hit(words: &[u64], r: &mut Random) -> Vec<u8> {
+    loop {
+        let slot = &words[384 + 4 * r.below(64)..][..3];
+        let partition = slot[0] >> 14;
+        if let Some(strand) = (0..4).find(|&s| words[32 * s] == partition) {
+            return load(strand as u64, slot[1] + 8 * r.below(1024) as u64);
+        }
+    }
+}
+
+/// One long run; the command, or pair, of each number.
+fn long(name: &str, goal: f64, words: &[u64], each: impl Fn(usize) -> Vec<u8> + 'static) -> Work {
+    let inputs = Box::new(move || vec![(0..PASS).flat_map(&each).collect()]);
+    Work { name: name.to_string(), words: words.to_vec(), units: PASS, goal, inputs }
+}
+
+/// One long run of hits at random slots.
+fn long_hits(name: &str, goal: f64, words: Vec<u64>) -> Work {
+    Work { name: name.to_string(), ..hits(words, PASS, goal) }
+}
+
+/// A pass of hits in runs of `length`.
+fn hits(words: Vec<u64>, length: usize, goal: f64) -> Work {
+    let number = (PASS / length).max(1);
+    let of = words.clone();
+    let inputs = Box::new(move || {
+        let mut r = Random(1234567);
+        (0..number).map(|_| (0..length).flat_map(|_| hit(&of, &mut r)).collect()).collect()
+    });
+    Work { name: format!("hits in runs of {length}"), words, units: number * length, goal, inputs }
+}
+
+fn soundness(name: &str, goal: f64, population: Population) -> Work {
+    let inputs = Box::new(|| vec![Vec::new(); 256]);
+    Work { name: format!("soundness of two full sides, {name}"), words: state(population), units: 256, goal, inputs }
+}
+
+fn lookups() -> Vec<Work> {
+    let (one, eight) = (state(Population::OneGuest), state(Population::EightPartitions));
+    let first = one[385];
+    vec![
+        long("hit, first slot", 0.7, &one, move |i| load(0, first + 8 * (i as u64 % 1024))),
+        long_hits("hit, random slot, one guest", 0.7, one.clone()),
+        long_hits("hit, random slot, one guest, four page sizes", 0.7, state(Population::FourSizes)),
+        long_hits("hit, random slot, eight partitions", 1.0, eight.clone()),
+        long("miss, one guest", 0.7, &one, |i| load(0, 0x7000_0000 + 0x2000 * (i as u64 % 512))),
+        long("miss, eight partitions", 1.0, &eight, |i| load(i as u64 % 4, 0x7000_0000 + 0x2000 * (i as u64 % 512))),
+        long("bypass (mode 2)", 1.0, &hyperprivileged(&one), |i| load(0, 8 * i as u64)),
+    ]
+}
+
+fn hyperprivileged(words: &[u64]) -> Vec<u64> {
+    let mut words = words.to_vec();
+    (0..4).for_each(|s| words[32 * s + 3] = 2);
+    words
+}
+
+/// Each insertion has a page of its own: 2,048 pages pass before one comes again.
+fn displacing(i: usize, strand: u8) -> Vec<u8> {
+    let page = 0x4000_0000 + 0x2000 * (i as u64 % 2048);
+    [with(&[1, strand, 21], page | CONTEXT), with(&[2, strand, 1, 0], 1 << 63 | (i as u64) << 13 | 0x440)].concat()
+}
+
+fn changes() -> Vec<Work> {
+    let (one, eight) = (state(Population::OneGuest), state(Population::EightPartitions));
+    let own = 1 << 63 | 0x440;
+    let absent = 0x7000_0000;
+    vec![
+        long("tag access and insertion with displacement, one guest (a pair)", 1.0, &one, |i| displacing(i, 0)),
+        long("the same, eight partitions", 1.0, &eight, |i| displacing(i, i as u8 % 4)),
+        long("insertion over the same page, full side", 1.0, &one, move |_| with(&[2, 0, 1, 0], own)),
+        long("demap page and insertion again (a pair)", 1.0, &one, move |_| {
+            [with(&[3, 0, 1, 0, 0], TAG), with(&[2, 0, 1, 0], own)].concat()
+        }),
+        long("demap page, none there", 1.0, &one, move |_| with(&[3, 0, 1, 0, 0], absent)),
+        long("demap page, none there, eight partitions", 1.0, &eight, move |i| with(&[3, i as u8 % 4, 1, 0, 0], absent)),
+        long("demap context, none there", 1.0, &one, |_| vec![4, 0, 1, 1]),
+        long("demap all, none there", 1.0, &other_partition(&one), |_| vec![5, 0, 1]),
+    ]
+}
+
+/// Strand 0 in a partition without entries.
+fn other_partition(words: &[u64]) -> Vec<u64> {
+    let mut words = words.to_vec();
+    words[0] = 3;
+    words
+}
+
+fn small() -> Vec<Work> {
+    let one = state(Population::OneGuest);
+    vec![
+        long("write of a register", 1.0, &one, |i| with(&[1, 0, 2], i as u64)),
+        long("read of a register", 1.0, &one, |i| vec![8, 0, i as u8 % 6]),
+        long("pointers", 1.0, &one, |_| vec![9, 0, 1]),
+        long("refused (register 99)", 1.0, &one, |_| vec![8, 0, 99]),
+    ]
+}
+
+fn growing(length: usize) -> Work {
+    hits(state(Population::OneGuest), length, if length == 1 { 1.0 } else { 0.7 })
+}
+
+pub fn all() -> Vec<Work> {
+    let mut all = lookups();
+    all.extend(changes());
+    all.extend(small());
+    all.extend([1, 10, 100, 1_000, 10_000, 100_000].map(growing));
+    all.push(soundness("one guest", 0.06, Population::OneGuest));
+    all.push(soundness("eight partitions", 0.06, Population::EightPartitions));
+    all.push(soundness("four page sizes", 0.06, Population::FourSizes));
+    all.push(soundness("worst population", 0.25, Population::Worst));
+    all
+}

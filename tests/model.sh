@@ -1,0 +1,21 @@
+#!/usr/bin/env bash
+# The second model and the ledger beside the proved library; then broken copies of the model, each of which has to be caught.
+# A longer soak: target/tests/model/release/model --streams 1000000 --seed 7
+set -euo pipefail
+cd "$(dirname "$0")/.."
+mkdir -p target/tests
+if [ -z "${T1MMU_LIB:-}" ]; then
+    rt staticlib t1mmu >target/tests/staticlib.log 2>&1 || { cat target/tests/staticlib.log; exit 1; }
+fi
+export CARGO_TARGET_DIR=$PWD/target/tests/model
+cargo build --release --offline --quiet --manifest-path tests/model/Cargo.toml
+model=$CARGO_TARGET_DIR/release/model
+"$model" --streams 20000 --sweeps --quiet --vectors tests/vectors.txt --printed crates/mmu_stream/stdin crates/mmu_stream/stdout --program target/bin/mmu_stream
+caught=0
+for name in $("$model" --broken-names); do
+    said=$("$model" --streams 20000 --quiet --broken "$name" | tail -n 1) || true
+    # "0 differ", or no such line, is a broken model that went unseen
+    [[ $said =~ \ ([1-9][0-9]*)\ differ$ ]] || { echo "model: broken $name was not caught: $said" >&2; exit 1; }
+    caught=$((caught + 1))
+done
+echo "model: $caught broken models, each caught"

@@ -1,0 +1,243 @@
+//! One stream through the model, the ledger and the library: every state word, every output byte and the report.
+use crate::command::{decode, disassembly, width};
+use crate::coverage::Coverage;
+use crate::generate::{Run, Scene};
+use crate::ledger::Ledger;
+use crate::library;
+use crate::model::{self, Model};
+use crate::random::Random;
+use crate::states::{self, Start};
+
+const GUARD: usize = 64;
+
+pub struct Stream {
+    pub seed: u64,
+    pub start: Start,
+    pub words: Vec<u64>,
+    pub runs: Vec<Run>,
+}
+
+#[derive(Default)]
+pub struct Counts {
+    pub streams: u64,
+    pub runs: u64,
+    pub commands: u64,
+    pub states: u64,
+    /// answers that the ledger gave beforehand
+    pub predicted: u64,
+}
+
+const OTHER_STARTS: [Start; 12] = [
+    Start::Sound,
+    Start::Sound,
+    Start::Sound,
+    Start::Sound,
+    Start::FlippedBit,
+    Start::FlippedBit,
+    Start::RandomWord,
+    Start::PlantedOverlap,
+    Start::DirtyEmptySlot,
+    Start::RandomCell,
+    Start::BadPage,
+    Start::WrongLength,
+];
+
+/// The stream of a seed.
+pub fn stream(seed: u64) -> Stream {
+    let mut r = Random::new(seed);
+    let scene = Scene::new(&mut r);
+    let start = match r.below(100) {
+        0..=49 => Start::Reset,
+        50 => Start::Noise,
+        _ => r.pick(&OTHER_STARTS),
+    };
+    let words = states::words(&mut r, &scene, start);
+    let runs = 1 + r.below(4);
+    let each = r.pick(&[3, 20, 60, 200]);
+    let runs = (0..runs).map(|i| scene.run(&mut r, i == 0 && start == Start::Reset, each)).collect();
+    Stream { seed, start, words, runs }
+}
+
+/// Memory with guard cells on both sides, all filled with a pattern.
+struct Guarded<T> {
+    cells: Vec<T>,
+    length: usize,
+}
+
+impl<T: Copy> Guarded<T> {
+    fn new(length: usize, mut fill: impl FnMut() -> T) -> Self {
+        Guarded { cells: (0..length + 2 * GUARD).map(|_| fill()).collect(), length }
+    }
+
+    fn inner(&mut self) -> &mut [T] {
+        &mut self.cells[GUARD..GUARD + self.length]
+    }
+}
+
+fn first_difference<T: PartialEq + std::fmt::LowerHex>(what: &str, model: &[T], library: &[T]) -> Result<(), String> {
+    match model.iter().zip(library).position(|(m, l)| m != l) {
+        None => Ok(()),
+        Some(i) => {
+            let at = i as isize - GUARD as isize;
+            Err(format!("{what} {at}: model {:#x}, library {:#x}", model[i], library[i]))
+        }
+    }
+}
+
+/// Where a state word stands, in words.
+fn place(at: isize) -> String {
+    match at {
+        0..=127 => format!("strand {} register {}", at / 32, at % 32),
+        128..=639 => format!("side {} slot {} {}", (at - 128) / 256, (at - 128) % 256 / 4, ["owner", "page", "word", "flags"][at as usize % 4]),
+        _ => "outside the state".to_string(),
+    }
+}
+
+fn compare_run(words: &mut Vec<u64>, run: &Run, r: &mut Random, coverage: &mut Coverage) -> Result<(model::Report, Vec<u8>), String> {
+    let mut ours = Guarded::new(words.len(), || r.next());
+    ours.inner().copy_from_slice(words);
+    let mut theirs = Guarded { cells: ours.cells.clone(), length: ours.length };
+    let mut out_ours = Guarded::new(run.room, || r.next() as u8);
+    let mut out_theirs = Guarded { cells: out_ours.cells.clone(), length: run.room };
+    let input = run.input.clone();
+    let (report, events) = model::run(ours.inner(), &run.input, out_ours.inner());
+    let got = library::run(theirs.inner(), &input, out_theirs.inner());
+    if report != got {
+        return Err(format!("report: model {report:?}, library {got:?}"));
+    }
+    first_difference("output byte", &out_ours.cells, &out_theirs.cells)
+        .map_err(|e| format!("{e} (answers have 24 bytes each)"))?;
+    if let Some(i) = ours.cells.iter().zip(&theirs.cells).position(|(m, l)| m != l) {
+        let at = i as isize - GUARD as isize;
+        return Err(format!("state word {at} ({}): model {:#x}, library {:#x}", place(at), ours.cells[i], theirs.cells[i]));
+    }
+    if input != run.input {
+        return Err("the input was written".to_string());
+    }
+    words.copy_from_slice(theirs.inner());
+    coverage.stop(report.stop);
+    coverage.events(&events);
+    Ok((report, out_theirs.inner()[..24 * report.answered].to_vec()))
+}
+
+/// The ledger's answers to the commands that a run took, against the library's bytes.
+fn compare_ledger(ledger: &mut Ledger, run: &Run, answers: &[u8], counts: &mut Counts) -> Result<(), String> {
+    let mut at = 0;
+    for (i, answer) in answers.chunks(24).enumerate() {
+        let given = ledger.answer(decode(&run.input[at..]), answer);
+        if given.as_ref().map(|b| &b[..]) != Some(answer) {
+            return Err(format!("answer {i} (input byte {at}): ledger {given:02x?}, library {answer:02x?}"));
+        }
+        counts.predicted += 1;
+        at += width(run.input[at]).expect("taken, so known");
+    }
+    Ok(())
+}
+
+fn compare_reset(length: usize, r: &mut Random) -> Result<(), String> {
+    let mut theirs = Guarded::new(length, || r.next());
+    let mut expected = theirs.cells.clone();
+    let number = library::reset(theirs.inner());
+    if length == model::WORDS {
+        expected[GUARD..GUARD + length].copy_from_slice(&Model::reset().to_words());
+    }
+    if number != (length != model::WORDS) as u8 {
+        return Err(format!("reset of {length} words gave {number}"));
+    }
+    first_difference("reset word", &expected, &theirs.cells)
+}
+
+/// Runs a stream through all three.
+pub fn compare(stream: &Stream, coverage: &mut Coverage, counts: &mut Counts) -> Result<(), String> {
+    let mut r = Random::new(stream.seed ^ 0x5151);
+    let mut words = stream.words.clone();
+    let mut ledger = (stream.start == Start::Reset).then(Ledger::reset);
+    compare_reset(words.len(), &mut r)?;
+    coverage.start(stream.start, Model::from_words(&words).is_some());
+    counts.streams += 1;
+    for (i, run) in stream.runs.iter().enumerate() {
+        let (report, answers) = compare_run(&mut words, run, &mut r, coverage).map_err(|e| format!("run {i}: {e}"))?;
+        counts.runs += 1;
+        counts.states += 1;
+        counts.commands += report.answered as u64;
+        let mut at = 0;
+        for answer in answers.chunks(24) {
+            coverage.answer(run.input[at], answer);
+            at += width(run.input[at]).expect("taken, so known");
+        }
+        if let Some(ledger) = &mut ledger {
+            compare_ledger(ledger, run, &answers, counts).map_err(|e| format!("run {i}: {e}"))?;
+        }
+    }
+    Ok(())
+}
+
+/// "v 63, nfo 62, soft2 61:56, address 55:13, ie 12, e 11, cp 10, cv 9, p 8, ep 7, w 6, soft 5:4, size 3:0": high bit and low bit.
+const FIELDS: [(u32, u32); 13] =
+    [(63, 63), (62, 62), (61, 56), (55, 13), (12, 12), (11, 11), (10, 10), (9, 9), (8, 8), (7, 7), (6, 6), (5, 4), (3, 0)];
+
+/// Entry words taken apart and put together; `n` random ones and each single bit.
+pub fn compare_words(n: u64, seed: u64) -> Result<u64, String> {
+    let mut r = Random::new(seed);
+    let random: Vec<u64> = (0..n).map(|_| r.next()).collect();
+    for word in random.into_iter().chain((0..64).map(|b| 1 << b)).chain([0, u64::MAX]) {
+        let mut fields = [0; 13];
+        for (field, (high, low)) in fields.iter_mut().zip(FIELDS) {
+            *field = word >> low & (u64::MAX >> (63 - (high - low)));
+        }
+        let got = library::unpack(word);
+        if got != library::Fields(fields) {
+            return Err(format!("unpack {word:#x}: expected {fields:x?}, library {got:x?}"));
+        }
+        // Bits past a field's width are not taken.
+        for (field, (high, low)) in fields.iter_mut().zip(FIELDS) {
+            *field |= if r.percent(30) { (r.next() << (high - low)) << 1 } else { 0 };
+        }
+        if library::pack(library::Fields(fields)) != word {
+            return Err(format!("pack {fields:x?}: expected {word:#x}, library {:#x}", library::pack(library::Fields(fields))));
+        }
+    }
+    Ok(n + 66)
+}
+
+/// A failing stream with as few commands as cutting one after the other leaves; the difference may become another one.
+pub fn shrink(stream: &mut Stream) {
+    let differs = |s: &Stream| compare(s, &mut Coverage::default(), &mut Counts::default()).is_err();
+    let mut i = stream.runs.len();
+    while i > 0 {
+        i -= 1;
+        let run = stream.runs.remove(i);
+        if !differs(stream) {
+            stream.runs.insert(i, run);
+        }
+    }
+    for i in 0..stream.runs.len() {
+        shrink_run(stream, i, &differs);
+    }
+}
+
+fn shrink_run(stream: &mut Stream, i: usize, differs: &dyn Fn(&Stream) -> bool) {
+    let mut starts = Vec::new();
+    let mut at = 0;
+    while let Some(w) = stream.runs[i].input.get(at).and_then(|&b| width(b)) {
+        starts.push((at, w));
+        at += w;
+    }
+    for &(at, w) in starts.iter().rev() {
+        let whole = stream.runs[i].input.clone();
+        let end = (at + w).min(whole.len());
+        stream.runs[i].input = [&whole[..at], &whole[end..]].concat();
+        if !differs(stream) {
+            stream.runs[i].input = whole;
+        }
+    }
+}
+
+/// The failing case for a reader.
+pub fn told(stream: &Stream, error: &str) -> String {
+    let mut text = format!("seed {:#x}, start {:?}: {error}\n", stream.seed, stream.start);
+    for (i, run) in stream.runs.iter().enumerate() {
+        text += &format!(" run {i}, room {}\n{}", run.room, disassembly(&run.input));
+    }
+    text
+}

@@ -1,0 +1,159 @@
+//! How often each answer, refusal, trap, stop, start state and way of an insertion occurred; a comparison that never met one of them shows little.
+use crate::model::{Choice, Event, CHOICES};
+use crate::states::{Start, STARTS};
+
+pub struct Coverage {
+    commands: [u64; 10],
+    answers: [u64; 6],
+    /// by command code and number
+    refusals: [[u64; 14]; 10],
+    traps: Vec<u64>,
+    /// bypasses into memory and into I/O space are told by their attributes 1 and 2 in mode 2
+    attributes: [u64; 8],
+    /// by command code: removals of none, one, several
+    removed: [[u64; 3]; 10],
+    stops: [u64; 5],
+    choices: [u64; 6],
+    found: [[u64; 6]; 2],
+    /// by start: sound, not sound
+    starts: [[u64; 2]; 10],
+}
+
+/// Which numbers a command can meet: 5 to 13 of "Questions before a command acts".
+const ASKED: [&[u8]; 10] = [&[], &[5, 9, 10], &[5, 6, 8, 11, 12, 13], &[5, 6, 7, 8, 11], &[5, 6, 7], &[5, 6], &[6], &[5, 6, 7, 8], &[5, 9], &[5, 6]];
+
+/// Every trap number with every fault type that it can have.
+const TRAPS: [(usize, &[usize]); 9] = [
+    (0x08, &[0x01, 0x10, 0x11, 0x20]),
+    (0x30, &[0x01, 0x02, 0x03, 0x04, 0x05, 0x10, 0x11, 0x14, 0x15, 0x20]),
+    (0x34, &[0]),
+    (0x37, &[0]),
+    (0x3E, &[0]),
+    (0x3F, &[0]),
+    (0x64, &[0]),
+    (0x68, &[0]),
+    (0x6C, &[0]),
+];
+
+const KINDS: [&str; 6] = ["done", "physical", "trap", "read", "displaced", "refused"];
+
+fn told(choice: &Choice) -> &'static str {
+    match choice {
+        Choice::Empty => "lowest empty slot",
+        Choice::EmptyAfterOverlap => "lowest empty slot after one overlap",
+        Choice::EmptyAfterSeveralOverlaps => "lowest empty slot after several overlaps",
+        Choice::FullSideOverlap => "full side, an overlapped entry made way",
+        Choice::LowestUnused => "lowest unlocked slot without a used bit",
+        Choice::UsedBitsCleared => "used bits cleared, lowest unlocked slot",
+    }
+}
+
+impl Default for Coverage {
+    fn default() -> Self {
+        Coverage {
+            commands: [0; 10],
+            answers: [0; 6],
+            refusals: [[0; 14]; 10],
+            traps: vec![0; 65536],
+            attributes: [0; 8],
+            removed: [[0; 3]; 10],
+            stops: [0; 5],
+            choices: [0; 6],
+            found: [[0; 6]; 2],
+            starts: [[0; 2]; 10],
+        }
+    }
+}
+
+impl Coverage {
+    pub fn start(&mut self, start: Start, sound: bool) {
+        let at = STARTS.iter().position(|s| *s == start).expect("a start");
+        self.starts[at][if sound { 0 } else { 1 }] += 1;
+    }
+
+    pub fn stop(&mut self, stop: u8) {
+        self.stops[stop as usize] += 1;
+    }
+
+    pub fn events(&mut self, events: &[Event]) {
+        for event in events {
+            match event {
+                Event::Inserted(choice) => self.choices[CHOICES.iter().position(|c| c == choice).expect("a choice")] += 1,
+                Event::Found { code, real } => self.found[*real as usize][*code as usize] += 1,
+            }
+        }
+    }
+
+    pub fn answer(&mut self, code: u8, bytes: &[u8]) {
+        let code = code as usize;
+        self.commands[code] += 1;
+        self.answers[bytes[0] as usize] += 1;
+        match bytes[0] {
+            0 if (3..=5).contains(&code) => self.removed[code][bytes[15].min(2) as usize] += 1,
+            1 => self.attributes[bytes[1] as usize] += 1,
+            2 => self.traps[bytes[1] as usize * 256 + bytes[2] as usize] += 1,
+            5 => self.refusals[code][bytes[1] as usize] += 1,
+            _ => {}
+        }
+    }
+
+    /// Every thing that has to occur, by name.
+    fn items(&self) -> Vec<(String, u64)> {
+        let mut all = Vec::new();
+        for code in 1..10 {
+            all.push((format!("command {code:#04x}"), self.commands[code]));
+            for &number in ASKED[code] {
+                all.push((format!("command {code:#04x} refused {number}"), self.refusals[code][number as usize]));
+            }
+        }
+        for (kind, name) in KINDS.iter().enumerate() {
+            all.push((format!("answer {kind} {name}"), self.answers[kind]));
+        }
+        for (number, types) in TRAPS {
+            for &fault in types {
+                all.push((format!("trap {number:#04x} type {fault:#04x}"), self.traps[number * 256 + fault]));
+            }
+        }
+        (0..8).for_each(|a| all.push((format!("physical a = {a}"), self.attributes[a])));
+        for code in 3..6 {
+            for (n, many) in ["none", "one", "several"].iter().enumerate() {
+                if (code, n) != (3, 2) {
+                    all.push((format!("command {code:#04x} removed {many}"), self.removed[code][n]));
+                }
+            }
+        }
+        (0..5).for_each(|s| all.push((format!("stop {s}"), self.stops[s])));
+        for (choice, count) in CHOICES.iter().zip(self.choices) {
+            all.push((format!("insertion: {}", told(choice)), count));
+        }
+        for (real, name) in ["virtual", "real"].iter().enumerate() {
+            [0, 1, 3, 5].iter().for_each(|&code: &usize| all.push((format!("found {name}, size code {code}"), self.found[real][code])));
+        }
+        self.start_items(&mut all);
+        all
+    }
+
+    fn start_items(&self, all: &mut Vec<(String, u64)>) {
+        for (start, [sound, unsound]) in STARTS.iter().zip(self.starts) {
+            if !matches!(start, Start::DirtyEmptySlot | Start::WrongLength | Start::Noise) {
+                all.push((format!("start {start:?}, sound"), sound));
+            }
+            if !matches!(start, Start::Reset | Start::Sound) {
+                all.push((format!("start {start:?}, not sound"), unsound));
+            }
+        }
+    }
+
+    pub fn print(&self) {
+        let items = self.items();
+        for pair in items.chunks(3) {
+            let line: Vec<String> = pair.iter().map(|(name, n)| format!("{n:>9} {name:<52}")).collect();
+            println!("{}", line.join("").trim_end());
+        }
+    }
+
+    /// The names of what never occurred.
+    pub fn missing(&self) -> Vec<String> {
+        self.items().into_iter().filter(|(_, n)| *n == 0).map(|(name, _)| name).collect()
+    }
+}

@@ -1,0 +1,306 @@
+//! Random command streams, dense in hard cases.
+use crate::command::{encode, Command};
+use crate::random::Random;
+
+/// One run of a stream: its bytes and its room for answers.
+pub struct Run {
+    pub input: Vec<u8>,
+    pub room: usize,
+}
+
+#[derive(Clone, Copy, Debug, PartialEq)]
+pub enum Profile {
+    /// many pages on few owners: full sides, displacement, used bits that run out
+    Fill,
+    /// locked insertions until no slot is to be had
+    Locks,
+    /// pages of all sizes side by side: full sides of mixed sizes
+    Mixed,
+    /// few addresses, all page sizes: overlaps and demaps
+    Dense,
+    /// ends of ranges and of the address space, masks
+    Edges,
+    /// malformed operands
+    Malformed,
+}
+
+const PROFILES: [Profile; 6] = [Profile::Fill, Profile::Locks, Profile::Mixed, Profile::Dense, Profile::Edges, Profile::Malformed];
+
+const EDGES: [u64; 16] = [
+    0,
+    0x2000,
+    0xFFFF_E000,
+    0x1_0000_0000,
+    0x80_0000_0000,
+    0xFF_FFFF_E000,
+    0x100_0000_0000,
+    0x0000_7FFF_F000_0000,
+    0x0000_7FFF_FFFF_E000,
+    0x0000_8000_0000_0000,
+    0xFFFF_7FFF_F000_0000,
+    0xFFFF_7FFF_FFFF_E000,
+    0xFFFF_8000_0000_0000,
+    0xFFFF_FFFF_F000_0000,
+    0xFFFF_FFFF_FFFF_0000,
+    0xFFFF_FFFF_FFFF_E000,
+];
+
+const CODES: [u64; 4] = [0, 1, 3, 5];
+
+/// The pools that a stream draws from.
+pub struct Scene {
+    pub profile: Profile,
+    partitions: Vec<u64>,
+    contexts: Vec<u64>,
+    pages: Vec<u64>,
+    codes: Vec<u64>,
+    lock_percent: u64,
+    bad_percent: u64,
+    side: Option<u8>,
+}
+
+fn some_of(r: &mut Random, most: u64, mut draw: impl FnMut(&mut Random) -> u64) -> Vec<u64> {
+    let n = 1 + r.below(most);
+    (0..n).map(|_| draw(r)).collect()
+}
+
+impl Scene {
+    pub fn new(r: &mut Random) -> Scene {
+        let profile = r.pick(&PROFILES);
+        let crowded = matches!(profile, Profile::Fill | Profile::Locks | Profile::Mixed);
+        let owners = if r.percent(50) { 1 } else { 3 };
+        let base = r.pick(&[0, 0x1000_0000, 0x7000_0000, 0xFFFF_FFFC_F000_0000, 0x0000_7FFC_F000_0000]);
+        let pages = match profile {
+            Profile::Fill | Profile::Locks => (0..70 + r.below(60)).map(|i| base + i * 0x2000).collect(),
+            Profile::Mixed => (0..160).map(|i| (base + i % 32 * 0x1000_0000) + r.pick(&[0, 0, 0x2000, 0x1_0000, 0x40_0000, 0xFFF_E000])).collect(),
+            Profile::Dense | Profile::Malformed => {
+                (0..12).map(|_| base + r.pick(&[0, 1, 2, 7, 8, 9, 0x1FF, 0x200, 0x201, 0x7FFF]) * 0x2000).collect()
+            }
+            Profile::Edges => EDGES.to_vec(),
+        };
+        Scene {
+            profile,
+            partitions: some_of(r, owners, |r| r.below(8)),
+            contexts: some_of(r, owners, |r| r.pick(&[0, 0, 1, 2, 4096, 8190, 8191])),
+            pages,
+            codes: match profile {
+                Profile::Fill | Profile::Locks => vec![0, 0, 0, 0, 0, 0, 0, 0, 0, 0, 0, 0, 0, 0, 0, 1],
+                Profile::Mixed => vec![0, 0, 0, 1, 1, 3, 5],
+                _ => CODES.to_vec(),
+            },
+            lock_percent: match profile {
+                Profile::Locks => 100 - r.pick(&[0, 0, 1, 3]),
+                _ => r.pick(&[0, 5, 30]),
+            },
+            bad_percent: if profile == Profile::Malformed { 15 } else { 1 },
+            side: if crowded { Some(r.below(2) as u8) } else { None },
+        }
+    }
+
+    fn bad(&self, r: &mut Random) -> bool {
+        r.percent(self.bad_percent)
+    }
+
+    /// Mostly below `n`, at the rate of the scene just past it or any byte.
+    fn operand(&self, r: &mut Random, n: u8) -> u8 {
+        match (self.bad(r), r.percent(50)) {
+            (false, _) => r.below(n as u64) as u8,
+            (true, true) => n,
+            (true, false) => r.next() as u8,
+        }
+    }
+
+    fn strand(&self, r: &mut Random) -> u8 {
+        self.operand(r, 4)
+    }
+
+    fn a_side(&self, r: &mut Random) -> u8 {
+        match self.side {
+            Some(side) if r.percent(90) => side,
+            _ => self.operand(r, 2),
+        }
+    }
+
+    fn address(&self, r: &mut Random) -> u64 {
+        let page = r.pick(&self.pages);
+        let near = r.pick(&[0, 0, 0, 0, 8, 0x1FF8, 0x1FFF, 0x2000, 0xFFF8, 0x3F_FFF8, 0xFFF_FFF8, 0u64.wrapping_sub(8), 0x1_0000_0000]);
+        match r.below(10) {
+            0 => r.pick(&EDGES).wrapping_add(near),
+            1 => page.wrapping_add(near),
+            2 => r.next() >> r.below(64),
+            _ => page.wrapping_add(r.below(0x2000) & !7),
+        }
+    }
+
+    pub fn word(&self, r: &mut Random) -> u64 {
+        let mut word = 1 << 63 | (r.next() & 0x3F00_00FF_FFFF_FEB0) | r.pick(&self.codes);
+        for (flag, percent) in [(62, 15), (8, 25), (6, 60)] {
+            word |= (r.percent(percent) as u64) << flag;
+        }
+        if r.percent(30) {
+            word &= !0x0FFF_E000;
+        }
+        if self.bad(r) {
+            word ^= match r.below(4) {
+                0 => 1 << 63,
+                1 => 1 << (40 + r.below(16)),
+                2 => 1 << r.below(4),
+                _ => r.next() << 40 & 0x00FF_FFFF_FFFF_FFFF,
+            };
+        }
+        word
+    }
+
+    /// A value that the register takes, or at the scene's rate one that it may not.
+    pub fn value(&self, r: &mut Random, register: u8) -> u64 {
+        if self.bad(r) {
+            return match r.below(3) {
+                0 => r.next(),
+                1 => 1 << r.below(64),
+                _ => r.pick(&[2, 3, 4, 8, 8192, 0x10, 0x1000, 0x1FF0, 2, 4, 6, 7, 0x200, 0x400, 0x600, 0x700, 0x800, 0x8]),
+            };
+        }
+        match register {
+            0 => r.pick(&self.partitions),
+            1 | 2 => r.pick(&self.contexts),
+            3 => r.pick(&[0, 0, 0, 0, 0, 1, 1, 1, 1, 1, 2]),
+            4 => r.pick(&[0, 1, 2, 3, 3, 3, 3, 3]),
+            5 => r.pick(&[0, 0, 0, 1]),
+            8..=15 => r.next() & !0x1FF0 & r.pick(&[u64::MAX, !15, 0xFFFF_FFFF]),
+            16..=19 => r.pick(&CODES) + 256 * r.pick(&CODES),
+            20 | 21 => self.tag(r),
+            _ => r.next(),
+        }
+    }
+
+    pub fn tag(&self, r: &mut Random) -> u64 {
+        let address = if r.percent(90) { r.pick(&self.pages) } else { self.address(r) };
+        address & !0x1FFF | r.pick(&self.contexts)
+    }
+
+    fn register(&self, r: &mut Random) -> u8 {
+        match r.below(10) {
+            0..=2 => r.pick(&[0, 1, 2, 3, 4, 5]),
+            3..=5 => 20 + r.below(2) as u8,
+            6..=8 => r.pick(&[8, 9, 10, 11, 12, 13, 14, 15, 16, 17, 18, 19]),
+            _ if self.bad(r) || r.percent(20) => r.pick(&[6, 7, 22, 23, 24, 25, 26, 31, 32, 255]),
+            _ => 20 + r.below(2) as u8,
+        }
+    }
+
+    fn write(&self, r: &mut Random, register: u8) -> Command {
+        Command::Write { strand: self.strand(r), register, value: self.value(r, register) }
+    }
+
+    /// Registers so that most accesses look up.
+    pub fn setup(&self, r: &mut Random) -> Vec<Command> {
+        let mut all = Vec::new();
+        for strand in 0..4 {
+            for register in 0..6 {
+                if r.percent(97) {
+                    all.push(Command::Write { strand, register, value: self.value(r, register) });
+                }
+            }
+        }
+        all
+    }
+
+    /// An insertion, mostly with a fresh tag access.
+    fn insertion(&self, r: &mut Random, all: &mut Vec<Command>) {
+        let (strand, side) = (self.strand(r), self.a_side(r));
+        if r.percent(92) {
+            all.push(Command::Write { strand, register: 20 + side % 2, value: self.tag(r) });
+        }
+        let locked = 2 * r.percent(self.lock_percent) as u8;
+        let real = r.percent(20) as u8;
+        let flags = if self.bad(r) { r.next() as u8 } else { real + locked };
+        all.push(Command::Insert { strand, side, flags, word: self.word(r) });
+    }
+
+    fn access(&self, r: &mut Random) -> Command {
+        let side = self.a_side(r);
+        let kind = if side == 0 { 0 } else { self.operand(r, 5) };
+        let selector = match (kind, self.bad(r)) {
+            (_, true) => r.below(5) as u8,
+            (0, _) => r.pick(&[0, 0, 0, 2]),
+            _ => r.pick(&[0, 0, 0, 1, 1, 2]),
+        };
+        let size = match (kind, self.bad(r)) {
+            (_, true) => r.below(6) as u8,
+            (0, _) => 2,
+            _ => r.below(4) as u8,
+        };
+        let mut address = self.address(r);
+        if r.percent(90) {
+            address &= !((1u64 << (size % 64)) - 1);
+        }
+        Command::Access { strand: self.strand(r), kind, selector, size, address }
+    }
+
+    fn removal(&self, r: &mut Random) -> Command {
+        let (strand, side) = (self.strand(r), self.a_side(r));
+        let selector = if side == 0 && !self.bad(r) { r.pick(&[0, 0, 2]) } else { self.operand(r, 3) };
+        let crowded = self.side.is_some();
+        match r.below(100) {
+            0..=59 => {
+                let flags = if self.bad(r) { r.next() as u8 } else { r.percent(25) as u8 };
+                Command::DemapPage { strand, side, selector, flags, address: self.address(r) }
+            }
+            60..=79 if !crowded || r.percent(10) => Command::DemapContext { strand, side, selector },
+            80..=92 if !crowded || r.percent(10) => Command::DemapAll { strand, side },
+            93..=99 if !crowded || r.percent(5) => Command::Invalidate { side },
+            _ => Command::DemapPage { strand, side, selector, flags: 0, address: self.address(r) },
+        }
+    }
+
+    fn add(&self, r: &mut Random, all: &mut Vec<Command>) {
+        let (insertions, accesses, removals) = match self.profile {
+            Profile::Fill | Profile::Mixed => (45, 45, 2),
+            Profile::Locks => (70, 20, 1),
+            Profile::Dense => (30, 40, 15),
+            Profile::Edges => (25, 45, 10),
+            Profile::Malformed => (25, 30, 15),
+        };
+        let draw = r.below(100);
+        if draw < insertions {
+            self.insertion(r, all);
+        } else if draw < insertions + accesses {
+            all.push(self.access(r));
+        } else if draw < insertions + accesses + removals {
+            all.push(self.removal(r));
+        } else {
+            let register = self.register(r);
+            all.push(match r.below(4) {
+                0 | 1 => self.write(r, register),
+                2 => Command::Read { strand: self.strand(r), register: if r.percent(95) { r.below(26) as u8 } else { r.next() as u8 } },
+                _ => Command::Pointers { strand: self.strand(r), side: self.operand(r, 2) },
+            });
+        }
+    }
+
+    fn commands(&self, r: &mut Random, n: usize) -> Vec<Command> {
+        let mut all = Vec::new();
+        while all.len() < n {
+            self.add(r, &mut all);
+        }
+        all
+    }
+
+    /// One run of about `n` commands; some end in an unknown code, in half a command or for want of room.
+    pub fn run(&self, r: &mut Random, first: bool, n: usize) -> Run {
+        let mut commands = if first && r.percent(95) { self.setup(r) } else { Vec::new() };
+        commands.extend(self.commands(r, n));
+        let mut input: Vec<u8> = commands.iter().flat_map(|&c| encode(c)).collect();
+        let mut room = 24 * commands.len() + r.below(60) as usize;
+        match r.below(20) {
+            0 | 1 => input.truncate(r.below(input.len() as u64 + 1) as usize),
+            2 => input.extend([r.pick(&[0, 0x0A, 0x0B, 0x10, 0x80, 0xFF]), 0, 0]),
+            3 | 4 => room = r.below(room as u64 + 1) as usize,
+            5 => room = r.below(100) as usize,
+            6 => (0..r.below(40)).for_each(|_| input.push(r.mostly(11))),
+            7 => input.clear(),
+            _ => {}
+        }
+        Run { input, room }
+    }
+}

@@ -1,0 +1,14 @@
+//! A second model of the unit, written from document 01 and not from the proved code, with the plain
+//! ledger of demand 3 beside it and the streams and states on which all three are compared.
+pub mod broken;
+pub mod command;
+pub mod compare;
+pub mod coverage;
+pub mod generate;
+pub mod ledger;
+pub mod library;
+pub mod model;
+pub mod random;
+pub mod states;
+pub mod sweeps;
+pub mod vectors;

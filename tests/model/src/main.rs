@@ -1,0 +1,158 @@
+//! Compares the model, the ledger and the proved library; see usage.
+use model::compare::{compare, compare_words, shrink, stream, told, Counts, Stream};
+use model::coverage::Coverage;
+use model::vectors::{self, Vector};
+use model::{broken, library, model as unit, sweeps};
+use std::io::Write;
+use std::process::{exit, Command, Stdio};
+
+const USAGE: &str = "model [--seed N] [--streams N] [--broken NAME] [--quiet] [--sweeps] [--vectors FILE] [--printed STDIN STDOUT] [--program PATH]
+  --streams N     random streams (default 20000); each has one to four runs
+  --seed N        the first stream's seed (default 1); stream i has seed N + i
+  --broken NAME   breaks the model on purpose: the comparison has to fail
+  --vectors FILE  hand-checked runs through model, ledger and library
+  --printed A B   the stream program's input A and its output B, likewise
+  --program PATH  compares the stream program, too, on every 40th stream that starts from reset
+  --sweeps        operands, registers, attributes, one-bit flips of a state, page sizes side by side: each case once
+  --quiet         no coverage table";
+
+struct Options {
+    seed: u64,
+    streams: u64,
+    quiet: bool,
+    sweeps: bool,
+    vectors: Option<String>,
+    printed: Option<(String, String)>,
+    program: Option<String>,
+}
+
+fn number(text: Option<String>) -> u64 {
+    text.and_then(|t| t.parse().ok()).unwrap_or_else(|| fail(USAGE))
+}
+
+fn fail(why: &str) -> ! {
+    eprintln!("{why}");
+    exit(2)
+}
+
+fn options() -> Options {
+    let mut o = Options { seed: 1, streams: 20000, quiet: false, sweeps: false, vectors: None, printed: None, program: None };
+    let mut args = std::env::args().skip(1);
+    while let Some(word) = args.next() {
+        match word.as_str() {
+            "--seed" => o.seed = number(args.next()),
+            "--streams" => o.streams = number(args.next()),
+            "--broken" => broken::choose(&args.next().unwrap_or_default()).unwrap_or_else(|e| fail(&e)),
+            "--broken-names" => {
+                broken::names().iter().for_each(|n| println!("{n}"));
+                exit(0)
+            }
+            "--quiet" => o.quiet = true,
+            "--sweeps" => o.sweeps = true,
+            "--vectors" => o.vectors = args.next(),
+            "--printed" => o.printed = args.next().zip(args.next()),
+            "--program" => o.program = args.next(),
+            _ => fail(USAGE),
+        }
+    }
+    o
+}
+
+fn differs(name: &str, who: &str, expected: &str, got: &str) -> u64 {
+    if expected == got {
+        return 0;
+    }
+    println!("{name}, {who}: expected\n{expected}got\n{got}");
+    1
+}
+
+/// Vectors and the printed run; how many differ.
+fn fixed_runs(o: &Options) -> u64 {
+    let text = |path: &String| std::fs::read(path).unwrap_or_else(|e| fail(&format!("{path}: {e}")));
+    let utf8 = |path: &String| String::from_utf8(text(path)).unwrap_or_else(|e| fail(&e.to_string()));
+    let mut all: Vec<Vector> = o.vectors.as_ref().map_or(Vec::new(), |path| vectors::read(&utf8(path)));
+    if let Some((input, output)) = &o.printed {
+        all.push(Vector { name: "the printed run".to_string(), input: text(input), output: utf8(output) });
+    }
+    let mut differ = 0;
+    for v in &all {
+        differ += differs(&v.name, "model", &v.output, &vectors::by_model(&v.input));
+        differ += differs(&v.name, "ledger", &v.output, &vectors::by_ledger(v));
+        differ += differs(&v.name, "library", &v.output, &vectors::by_library(&v.input));
+    }
+    if !all.is_empty() {
+        println!("model: {} fixed runs through model, ledger and library, {differ} differ", all.len());
+    }
+    differ
+}
+
+fn printed_by(program: &str, input: &[u8]) -> String {
+    let mut child = Command::new(program).stdin(Stdio::piped()).stdout(Stdio::piped()).spawn().unwrap_or_else(|e| fail(&format!("{program}: {e}")));
+    // A program that has read its 4,096 bytes may close the pipe.
+    let _ = child.stdin.take().expect("a pipe").write_all(input);
+    String::from_utf8_lossy(&child.wait_with_output().expect("its output").stdout).into_owned()
+}
+
+fn program_runs(o: &Options, program: &str) -> u64 {
+    let (mut runs, mut differ) = (0, 0);
+    for seed in (o.seed..o.seed + o.streams).step_by(40) {
+        for run in stream(seed).runs {
+            runs += 1;
+            differ += differs(&format!("seed {seed}"), "stream program", &vectors::by_model(&run.input), &printed_by(program, &run.input));
+        }
+    }
+    println!("model: {runs} runs of the stream program, {differ} differ");
+    differ
+}
+
+/// Streams through all three; the first that differs is told with as few commands as may be. None of it counts as covered by chance: sweeps
+/// and random streams have coverage of their own.
+fn compared(name: &str, streams: impl Iterator<Item = Stream>) -> (u64, Coverage) {
+    let (mut coverage, mut counts) = (Coverage::default(), Counts::default());
+    let mut differ = 0;
+    for mut s in streams {
+        let Err(error) = compare(&s, &mut coverage, &mut counts) else { continue };
+        differ += 1;
+        if differ == 1 {
+            shrink(&mut s);
+            let error = compare(&s, &mut Coverage::default(), &mut Counts::default()).err().unwrap_or(error);
+            print!("{}", told(&s, &error));
+        }
+        if differ == 20 {
+            break;
+        }
+    }
+    println!("{name}: {} runs, {} answers predicted by the ledger", counts.runs, counts.predicted);
+    println!("{name}: {} streams, {} commands, {} states compared, {differ} differ", counts.streams, counts.commands, counts.states);
+    (differ, coverage)
+}
+
+fn main() {
+    let o = options();
+    let mut differ = (library::state_words() != unit::WORDS) as u64;
+    differ += fixed_runs(&o);
+    match compare_words(100_000, o.seed) {
+        Ok(n) => println!("model: {n} entry words unpacked and packed, 0 differ"),
+        Err(error) => {
+            println!("{error}");
+            differ += 1;
+        }
+    }
+    if let Some(program) = &o.program {
+        differ += program_runs(&o, program);
+    }
+    if o.sweeps {
+        differ += compared("model, sweeps", sweeps::all()).0;
+    }
+    let (streams_differ, coverage) = compared("model", (o.seed..o.seed + o.streams).map(stream));
+    differ += streams_differ;
+    if !o.quiet {
+        coverage.print();
+    }
+    let missing = coverage.missing();
+    if streams_differ == 0 && !missing.is_empty() {
+        println!("model: never occurred: {}", missing.join("; "));
+        exit(1);
+    }
+    exit(if differ == 0 { 0 } else { 1 });
+}

@@ -1,0 +1,647 @@
+//! The unit as document 01 has it: plain structs, one scan for each question. Sentences of the document are quoted where they decide.
+use crate::broken::{self, Broken};
+use crate::command::{decode, width, Command};
+
+pub const WORDS: usize = 640;
+pub const SLOTS: usize = 64;
+const CELLS: usize = 32;
+const REGISTERS: usize = 26;
+
+#[derive(Clone, Copy, Debug, PartialEq)]
+pub struct Entry {
+    pub partition: u64,
+    pub real: bool,
+    pub context: u64,
+    pub page: u64,
+    pub word: u64,
+    pub locked: bool,
+    pub used: bool,
+}
+
+#[derive(Clone, Debug, PartialEq)]
+pub struct Model {
+    /// by strand and number; 6 and 7 are no registers and stay 0
+    pub registers: [[u64; REGISTERS]; 4],
+    pub sides: [[Option<Entry>; SLOTS]; 2],
+    /// what happened inside, for coverage
+    pub events: Vec<Event>,
+}
+
+#[derive(Clone, Copy, Debug, PartialEq)]
+pub enum Event {
+    Inserted(Choice),
+    /// a lookup found an entry of this size code and realness
+    Found { code: u64, real: bool },
+}
+
+/// How an insertion came to its slot.
+#[derive(Clone, Copy, Debug, PartialEq, Eq, PartialOrd, Ord)]
+pub enum Choice {
+    Empty,
+    EmptyAfterOverlap,
+    EmptyAfterSeveralOverlaps,
+    FullSideOverlap,
+    LowestUnused,
+    UsedBitsCleared,
+}
+
+pub const CHOICES: [Choice; 6] = [
+    Choice::Empty,
+    Choice::EmptyAfterOverlap,
+    Choice::EmptyAfterSeveralOverlaps,
+    Choice::FullSideOverlap,
+    Choice::LowestUnused,
+    Choice::UsedBitsCleared,
+];
+
+#[derive(Clone, Copy, Debug, PartialEq)]
+pub struct Report {
+    pub answered: usize,
+    pub taken: usize,
+    pub stop: u8,
+}
+
+#[derive(Clone, Copy, Debug, PartialEq)]
+pub enum Answer {
+    Done { count: u64 },
+    Physical { attributes: u8, address: u64 },
+    Trap { number: u8, fault: u8, address: u64, tag: u64 },
+    Read { first: u64, second: u64 },
+    Displaced { entry: Entry },
+    Refused { number: u8 },
+}
+
+// ---- addresses and entry words
+
+/// "in range when below 2^47 or at least 2^64 − 2^47"
+pub fn in_range(address: u64) -> bool {
+    address < 1 << 47 || address >= (1u64 << 47).wrapping_neg()
+}
+
+/// "0, 1, 3 or 5 for 2^13, 2^16, 2^22, 2^28 bytes"
+pub fn page_size(code: u64) -> Option<u64> {
+    match code {
+        0 => Some(1 << 13),
+        1 => Some(1 << 16),
+        3 => Some(1 << 22),
+        5 => Some(1 << 28),
+        _ => None,
+    }
+}
+
+fn bit(word: u64, n: u32) -> bool {
+    word >> n & 1 == 1
+}
+
+/// Number 12: "Word with v 1, a listed size, bits 55:40 zero?"
+pub fn word_allowed(word: u64) -> bool {
+    bit(word, 63) && page_size(word & 15).is_some() && word >> 40 & 0xFFFF == 0
+}
+
+/// The page size of a word that passed number 12.
+fn size_of(word: u64) -> u64 {
+    page_size(word & 15).expect("a listed size")
+}
+
+fn round_down(address: u64, size: u64) -> u64 {
+    address & !(size - 1)
+}
+
+impl Entry {
+    fn holds(&self, address: u64) -> bool {
+        round_down(address, size_of(self.word)) == self.page
+    }
+
+    /// "Two entries of a side overlap when partition, realness and context agree and one page holds the other's start."
+    pub fn overlaps(&self, other: &Entry) -> bool {
+        let agree = self.partition == other.partition && self.real == other.real && self.context == other.context;
+        agree && (self.holds(other.page) || other.holds(self.page))
+    }
+}
+
+// ---- registers
+
+fn known(register: u8) -> bool {
+    matches!(register, 0..=5 | 8..=25)
+}
+
+fn writable(register: u8) -> bool {
+    matches!(register, 0..=5 | 8..=21)
+}
+
+/// Number 10, for a writable register.
+fn value_allowed(register: u8, value: u64) -> bool {
+    match register {
+        0 => value <= 7,
+        1 | 2 => value <= 8191,
+        3 => value <= 2,
+        4 => value <= 3,
+        5 => value <= 1,
+        8..=15 => value & 0x1FF0 == 0,
+        16..=19 => value & !0x707 == 0 && page_size(value & 7).is_some() && page_size(value >> 8 & 7).is_some(),
+        _ => true,
+    }
+}
+
+// ---- the state as words
+
+fn entry_of(slot: &[u64]) -> Option<Entry> {
+    let [owner, page, word, flags] = [slot[0], slot[1], slot[2], slot[3]];
+    let entry = Entry {
+        partition: owner >> 14,
+        real: bit(owner, 13),
+        context: owner & 0x1FFF,
+        page,
+        word,
+        locked: bit(flags, 0),
+        used: bit(flags, 1),
+    };
+    let fits = entry.partition <= 7 && flags <= 3 && !(entry.real && entry.context != 0);
+    let sound = fits && word_allowed(word) && in_range(page) && round_down(page, size_of(word)) == page;
+    sound.then_some(entry)
+}
+
+fn words_of(slot: &Option<Entry>) -> [u64; 4] {
+    match slot {
+        None => [0; 4],
+        Some(e) => [e.partition << 14 | (e.real as u64) << 13 | e.context, e.page, e.word, e.locked as u64 | (e.used as u64) << 1],
+    }
+}
+
+/// One side; none when a slot is not sound or two live entries overlap.
+fn side_of(words: &[u64]) -> Option<[Option<Entry>; SLOTS]> {
+    let mut side = [None; SLOTS];
+    for (i, slot) in words.chunks(4).enumerate() {
+        if bit(slot[2], 63) {
+            side[i] = Some(entry_of(slot)?);
+        } else if slot != [0; 4] && !broken::is(Broken::DirtyEmptySlots) {
+            return None;
+        }
+    }
+    let live: Vec<Entry> = side.iter().flatten().copied().collect();
+    for (i, one) in live.iter().enumerate() {
+        if live[i + 1..].iter().any(|other| one.overlaps(other)) {
+            return None;
+        }
+    }
+    Some(side)
+}
+
+impl Model {
+    /// "Reset: all zero, mode 2, buffers empty."
+    pub fn reset() -> Model {
+        let mut registers = [[0; REGISTERS]; 4];
+        for strand in &mut registers {
+            strand[3] = 2;
+        }
+        Model { registers, sides: [[None; SLOTS]; 2], events: Vec::new() }
+    }
+
+    /// The state that the words hold; none where it is not sound (number 1).
+    pub fn from_words(words: &[u64]) -> Option<Model> {
+        if words.len() != WORDS {
+            return None;
+        }
+        let mut model = Model::reset();
+        for strand in 0..4 {
+            for number in 0..CELLS {
+                let value = words[strand * CELLS + number];
+                let sound = if known(number as u8) { value_allowed(number as u8, value) } else { value == 0 };
+                if !sound {
+                    return None;
+                }
+                if number < REGISTERS {
+                    model.registers[strand][number] = value;
+                }
+            }
+        }
+        let slots = 4 * CELLS;
+        model.sides[0] = side_of(&words[slots..slots + 4 * SLOTS])?;
+        model.sides[1] = side_of(&words[slots + 4 * SLOTS..])?;
+        Some(model)
+    }
+
+    pub fn to_words(&self) -> Vec<u64> {
+        let mut words = Vec::with_capacity(WORDS);
+        for strand in &self.registers {
+            words.extend_from_slice(strand);
+            words.resize(words.len() + CELLS - REGISTERS, 0);
+        }
+        for slot in self.sides.iter().flatten() {
+            words.extend_from_slice(&words_of(slot));
+        }
+        words
+    }
+}
+
+// ---- questions 5 to 13
+
+fn side_of_kind(kind: u8) -> usize {
+    if kind == 0 {
+        0
+    } else {
+        1
+    }
+}
+
+/// Each question as the number it answers with and whether it fails; the first that fails answers.
+type Question = (u8, bool);
+
+fn first_failing(questions: &[Question]) -> Option<u8> {
+    questions.iter().find(|(_, fails)| *fails).map(|(number, _)| *number)
+}
+
+impl Model {
+    fn refusal(&self, command: Command) -> Option<u8> {
+        // The registers of a strand that is none are never looked at: number 5 comes first.
+        let strand_fails = |strand: u8| strand > 3;
+        match command {
+            Command::Write { strand, register, value } => first_failing(&[
+                (5, strand_fails(strand)),
+                (9, !writable(register)),
+                (10, !value_allowed(register, value)),
+            ]),
+            Command::Insert { strand, side, flags, word } => {
+                let early = [(5, strand_fails(strand)), (6, side > 1), (8, flags > 3)];
+                first_failing(&early).or_else(|| self.insertion_refusal(strand, side, flags, word))
+            }
+            Command::DemapPage { strand, side, selector, flags, address } => first_failing(&[
+                (5, strand_fails(strand)),
+                (6, side > 1),
+                (7, selector > 2 || selector == 1 && side == 0),
+                (8, flags > 1),
+                (11, !in_range(address)),
+            ]),
+            Command::DemapContext { strand, side, selector } => first_failing(&[
+                (5, strand_fails(strand)),
+                (6, side > 1),
+                (7, selector > 2 || selector == 1 && side == 0),
+            ]),
+            Command::DemapAll { strand, side } => first_failing(&[(5, strand_fails(strand)), (6, side > 1)]),
+            Command::Invalidate { side } => first_failing(&[(6, side > 1)]),
+            Command::Access { strand, kind, selector, size, .. } => {
+                let early = [(5, strand_fails(strand)), (6, kind > 4)];
+                first_failing(&early).or_else(|| self.access_refusal(strand, kind, selector, size))
+            }
+            Command::Read { strand, register } => first_failing(&[(5, strand_fails(strand)), (9, !known(register))]),
+            Command::Pointers { strand, side } => first_failing(&[(5, strand_fails(strand)), (6, side > 1)]),
+        }
+    }
+
+    /// 7 and 8 of an access whose strand and kind are good.
+    fn access_refusal(&self, strand: u8, kind: u8, selector: u8, size: u8) -> Option<u8> {
+        let fetch = kind == 0;
+        let user = self.registers[strand as usize][3] == 0;
+        let selector_fails = selector > 2 || selector == 1 && fetch || selector == 2 && fetch && user;
+        let size_fails = size > 3 || fetch && size != 2;
+        first_failing(&[(7, selector_fails), (8, size_fails)])
+    }
+
+    /// 11, 12 and 13 of an insertion whose strand, side and flags are good.
+    fn insertion_refusal(&self, strand: u8, side: u8, flags: u8, word: u64) -> Option<u8> {
+        let tag = self.registers[strand as usize][20 + side as usize];
+        let slots = &self.sides[side as usize];
+        let stuck = slots.iter().all(|s| s.is_some_and(|e| e.locked));
+        if !in_range(round_down(tag, 1 << 13)) {
+            return Some(11);
+        }
+        if broken::is(Broken::WrongOrder12And13) && stuck && !word_allowed(word) {
+            return Some(13);
+        }
+        if !word_allowed(word) {
+            return Some(12);
+        }
+        let new = self.new_entry(strand, side, flags, word);
+        let overlapped = slots.iter().flatten().any(|e| e.overlaps(&new));
+        if stuck && (!overlapped || broken::is(Broken::RefuseDespiteOverlap)) {
+            return Some(13);
+        }
+        None
+    }
+
+    /// "Insertion takes the strand's partition and tag access, its address rounded down to the word's page."
+    fn new_entry(&self, strand: u8, side: u8, flags: u8, word: u64) -> Entry {
+        let registers = &self.registers[strand as usize];
+        let tag = registers[20 + side as usize];
+        let real = flags & 1 == 1;
+        Entry {
+            partition: registers[0],
+            real,
+            context: if real { 0 } else { tag & 0x1FFF },
+            page: round_down(tag, size_of(word)),
+            word,
+            locked: flags & 2 == 2,
+            used: true,
+        }
+    }
+}
+
+// ---- insertion and removal
+
+impl Model {
+    fn insert(&mut self, side: usize, new: Entry) -> Answer {
+        let slots = &mut self.sides[side];
+        let full = slots.iter().all(|s| s.is_some());
+        let mut removed = 0;
+        for slot in slots.iter_mut() {
+            if slot.is_some_and(|e| e.overlaps(&new)) {
+                *slot = None;
+                removed += 1;
+            }
+        }
+        if let Some(i) = slots.iter().position(|s| s.is_none()) {
+            slots[i] = Some(new);
+            self.events.push(Event::Inserted(match removed {
+                0 => Choice::Empty,
+                _ if full => Choice::FullSideOverlap,
+                1 => Choice::EmptyAfterOverlap,
+                _ => Choice::EmptyAfterSeveralOverlaps,
+            }));
+            return Answer::Done { count: 0 };
+        }
+        let unused = |s: &Option<Entry>| s.is_some_and(|e| !e.locked && !e.used);
+        let mut place = slots.iter().position(unused);
+        if broken::is(Broken::DisplaceHighest) {
+            place = slots.iter().rposition(unused);
+        }
+        self.events.push(Event::Inserted(if place.is_some() { Choice::LowestUnused } else { Choice::UsedBitsCleared }));
+        let place = place.unwrap_or_else(|| {
+            for e in slots.iter_mut().flatten() {
+                e.used = e.locked && broken::is(Broken::ClearUnlockedOnly);
+            }
+            slots.iter().position(|s| s.is_some_and(|e| !e.locked)).expect("number 13 was asked")
+        });
+        let displaced = slots[place].expect("no slot is empty");
+        slots[place] = Some(new);
+        Answer::Displaced { entry: displaced }
+    }
+
+    /// Empties the slots of the side whose entries pass the test; the answer has their number.
+    fn remove(&mut self, side: u8, goes: impl Fn(&Entry) -> bool) -> Answer {
+        let mut count = 0;
+        for slot in self.sides[side as usize].iter_mut() {
+            if slot.is_some_and(|e| goes(&e)) {
+                *slot = None;
+                count += 1;
+            }
+        }
+        Answer::Done { count }
+    }
+
+    /// "Selector 0 primary, 1 secondary, 2 nucleus (context 0)."
+    fn selected_context(&self, strand: u8, selector: u8) -> u64 {
+        match selector {
+            0 => self.registers[strand as usize][1],
+            1 => self.registers[strand as usize][2],
+            _ => 0,
+        }
+    }
+}
+
+// ---- access
+
+struct Access {
+    strand: u8,
+    side: usize,
+    kind: u8,
+    nucleus: bool,
+    size: u8,
+    /// the address used: masked where the mask holds
+    address: u64,
+    /// the selected context
+    context: u64,
+}
+
+impl Model {
+    fn access(&mut self, strand: u8, kind: u8, selector: u8, size: u8, address: u64) -> Answer {
+        let registers = &self.registers[strand as usize];
+        let masked = registers[5] == 1 && (registers[3] != 2 || broken::is(Broken::MaskInMode2));
+        let access = Access {
+            strand,
+            side: side_of_kind(kind),
+            kind,
+            nucleus: selector == 2,
+            size,
+            address: if masked { address & 0xFFFF_FFFF } else { address },
+            context: self.selected_context(strand, selector),
+        };
+        self.translate(&access)
+    }
+
+    /// Steps 1 to 8, first match.
+    fn translate(&mut self, a: &Access) -> Answer {
+        let registers = self.registers[a.strand as usize];
+        let (mode, fetch) = (registers[3], a.kind == 0);
+        if a.address % (1 << a.size) != 0 {
+            return self.trap_keeping_tag(a, 0x34);
+        }
+        if mode == 0 && !fetch && a.nucleus {
+            return self.trap_keeping_tag(a, 0x37);
+        }
+        if mode == 2 {
+            let attributes = if bit(a.address, 39) { 2 } else { 1 };
+            return Answer::Physical { attributes, address: a.address % (1 << 40) };
+        }
+        if !in_range(a.address) {
+            return self.trap(a, if fetch { 0x08 } else { 0x30 }, 0x20);
+        }
+        let translating = bit(registers[4], a.side as u32);
+        let Some(slot) = self.find(a, registers[0], !translating) else {
+            return self.miss(a, translating);
+        };
+        let entry = self.sides[a.side][slot].as_mut().expect("a live entry was found");
+        entry.used = true;
+        let word = entry.word;
+        self.events.push(Event::Found { code: word & 15, real: !translating });
+        let fault = fault_type(word, mode, a.kind);
+        if fault != 0 {
+            return self.trap(a, if fetch { 0x08 } else { 0x30 }, fault);
+        }
+        if (a.kind == 2 || a.kind == 3) && !bit(word, 6) {
+            return self.trap(a, 0x6C, 0);
+        }
+        let attributes = bit(word, 10) as u8 + 2 * bit(word, 11) as u8 + 4 * bit(word, 12) as u8;
+        let size = size_of(word);
+        let start = if broken::is(Broken::UnroundedAddress) { word_address(word) } else { round_down(word_address(word), size) };
+        Answer::Physical { attributes, address: start + a.address % size }
+    }
+
+    fn find(&self, a: &Access, partition: u64, real: bool) -> Option<usize> {
+        let context_agrees = |e: &Entry| if real && !broken::is(Broken::ContextOnReal) { true } else { e.context == a.context };
+        let answers = |e: &Entry| e.partition == partition && e.real == real && context_agrees(e) && e.holds(a.address);
+        self.sides[a.side].iter().position(|s| s.as_ref().is_some_and(answers))
+    }
+
+    fn miss(&mut self, a: &Access, translating: bool) -> Answer {
+        if broken::is(Broken::UsedBitOnMiss) {
+            if let Some(e) = &mut self.sides[a.side][0] {
+                e.used = true;
+            }
+        }
+        let number = match (translating, a.side) {
+            (true, 0) => 0x64,
+            (true, _) => 0x68,
+            (false, 0) => 0x3E,
+            (false, _) => 0x3F,
+        };
+        self.trap(a, number, 0)
+    }
+
+    /// A trap that writes tag access: "the address used and the selected context, or context 0 when translation is off for the side".
+    fn trap(&mut self, a: &Access, number: u8, fault: u8) -> Answer {
+        let registers = &mut self.registers[a.strand as usize];
+        let context = if bit(registers[4], a.side as u32) { a.context } else { 0 };
+        registers[20 + a.side] = round_down(a.address, 1 << 13) | context;
+        self.record(a, number, fault)
+    }
+
+    fn trap_keeping_tag(&mut self, a: &Access, number: u8) -> Answer {
+        self.record(a, number, 0)
+    }
+
+    /// "Every trap writes the side's registers 22 and 24"
+    fn record(&mut self, a: &Access, number: u8, fault: u8) -> Answer {
+        let registers = &mut self.registers[a.strand as usize];
+        registers[22 + a.side] = a.address;
+        registers[24 + a.side] = number as u64 * 256 + fault as u64;
+        Answer::Trap { number, fault, address: a.address, tag: registers[20 + a.side] }
+    }
+}
+
+/// Step 6.
+fn fault_type(word: u64, mode: u64, kind: u8) -> u8 {
+    let mut sum = 0;
+    if bit(word, 8) && mode == 0 {
+        sum += 0x01;
+    }
+    if kind == 4 && bit(word, 11) {
+        sum += 0x02;
+    }
+    if kind == 3 && !bit(word, 10) {
+        sum += 0x04;
+    }
+    if bit(word, 62) && kind != 4 {
+        sum += 0x10;
+    }
+    sum
+}
+
+/// "address 55:13"
+fn word_address(word: u64) -> u64 {
+    word & 0x00FF_FFFF_FFFF_E000
+}
+
+// ---- pointers
+
+impl Model {
+    /// "context of tag access picks the registers", ps0 then ps1
+    fn pointers(&self, strand: u8, side: u8) -> Answer {
+        let registers = &self.registers[strand as usize];
+        let side = side as usize;
+        let tag = registers[20 + side];
+        let other = if tag & 0x1FFF != 0 { 1 } else { 0 };
+        let configuration = registers[16 + 2 * side + other];
+        let pointer = |base: u64, code: u64| {
+            let n = base & 15;
+            let index = (round_down(tag, 1 << 13) / page_size(code).expect("an allowed size")) % (1 << (9 + n));
+            round_down(base, 1 << (13 + n)) + 16 * index
+        };
+        let base = 8 + 4 * side + 2 * other;
+        Answer::Read {
+            first: pointer(registers[base], configuration & 7),
+            second: pointer(registers[base + 1], configuration >> 8 & 7),
+        }
+    }
+}
+
+// ---- a command, a run
+
+impl Model {
+    pub fn step(&mut self, command: Command) -> Answer {
+        if let Some(number) = self.refusal(command) {
+            return Answer::Refused { number };
+        }
+        match command {
+            Command::Write { strand, register, value } => {
+                self.registers[strand as usize][register as usize] = value;
+                Answer::Done { count: 0 }
+            }
+            Command::Insert { strand, side, flags, word } => {
+                let new = self.new_entry(strand, side, flags, word);
+                self.insert(side as usize, new)
+            }
+            Command::DemapPage { strand, side, selector, flags, address } => {
+                let (partition, context) = (self.registers[strand as usize][0], self.selected_context(strand, selector));
+                let real = flags == 1;
+                self.remove(side, |e| e.partition == partition && e.real == real && (real || e.context == context) && e.holds(address))
+            }
+            Command::DemapContext { strand, side, selector } => {
+                let (partition, context) = (self.registers[strand as usize][0], self.selected_context(strand, selector));
+                self.remove(side, |e| e.partition == partition && !e.real && e.context == context)
+            }
+            Command::DemapAll { strand, side } => {
+                let partition = self.registers[strand as usize][0];
+                let (any_lock, any_partition) = (broken::is(Broken::ForgetLocked), broken::is(Broken::DemapAllPartitions));
+                self.remove(side, |e| (e.partition == partition || any_partition) && (!e.locked || any_lock))
+            }
+            Command::Invalidate { side } => {
+                self.remove(side, |_| true);
+                Answer::Done { count: 0 }
+            }
+            Command::Access { strand, kind, selector, size, address } => self.access(strand, kind, selector, size, address),
+            Command::Read { strand, register } => Answer::Read { first: self.registers[strand as usize][register as usize], second: 0 },
+            Command::Pointers { strand, side } => self.pointers(strand, side),
+        }
+    }
+
+    /// Commands up to the end of the bytes or to the first that meets 2, 3 or 4.
+    pub fn run_commands(&mut self, input: &[u8], output: &mut [u8]) -> Report {
+        let mut report = Report { answered: 0, taken: 0, stop: 0 };
+        while report.taken < input.len() {
+            let Some(width) = width(input[report.taken]) else {
+                report.stop = 2;
+                break;
+            };
+            if input.len() - report.taken < width {
+                report.stop = 3;
+                break;
+            }
+            if output.len() - 24 * report.answered < 24 {
+                report.stop = 4;
+                break;
+            }
+            let answer = self.step(decode(&input[report.taken..]));
+            output[24 * report.answered..][..24].copy_from_slice(&answer_bytes(&answer));
+            report.answered += 1;
+            report.taken += width;
+        }
+        report
+    }
+}
+
+/// One run over the caller's words; what happened inside beside the report.
+pub fn run(words: &mut [u64], input: &[u8], output: &mut [u8]) -> (Report, Vec<Event>) {
+    let Some(mut model) = Model::from_words(words) else {
+        return (Report { answered: 0, taken: 0, stop: 1 }, Vec::new());
+    };
+    let report = model.run_commands(input, output);
+    words.copy_from_slice(&model.to_words());
+    (report, model.events)
+}
+
+/// "Each answer has 24 bytes: kind, a, b, c, four zeros, two big-endian values of 8."
+pub fn answer_bytes(answer: &Answer) -> [u8; 24] {
+    let (kind, a, b, c, first, second) = match *answer {
+        Answer::Done { count } => (0, 0, 0, 0, count, 0),
+        Answer::Physical { attributes, address } => (1, attributes, 0, 0, address, 0),
+        Answer::Trap { number, fault, address, tag } => (2, number, fault, 0, address, tag),
+        Answer::Read { first, second } => (3, 0, 0, 0, first, second),
+        Answer::Displaced { entry: e } => (4, 0, e.partition as u8, e.real as u8, e.page + e.context, e.word),
+        Answer::Refused { number } => (5, number, 0, 0, 0, 0),
+    };
+    let mut bytes = [0; 24];
+    bytes[..4].copy_from_slice(&[kind, a, b, c]);
+    bytes[8..16].copy_from_slice(&first.to_be_bytes());
+    bytes[16..].copy_from_slice(&second.to_be_bytes());
+    bytes
+}

@@ -1,0 +1,173 @@
+//! Cases taken one after the other instead of at random: every operand byte, every register with values at its bounds, every
+//! attribute of a word in every mode, every state that is one bit away from a full one, every pair of page sizes side by side.
+use crate::command::{encode, Command};
+use crate::compare::Stream;
+use crate::generate::Run;
+use crate::model::{Entry, Model, SLOTS, WORDS};
+use crate::states::Start;
+
+const PAGE: u64 = 0x4000_0000;
+
+fn from_reset(seed: u64, commands: Vec<Command>) -> Stream {
+    let room = 24 * commands.len() + 7;
+    let input = commands.into_iter().flat_map(encode).collect();
+    Stream { seed, start: Start::Reset, words: Model::reset().to_words(), runs: vec![Run { input, room }] }
+}
+
+fn from_words(seed: u64, start: Start, words: Vec<u64>) -> Stream {
+    let input = [Command::Read { strand: 0, register: 3 }, Command::DemapAll { strand: 0, side: 1 }].into_iter().flat_map(encode).collect();
+    Stream { seed, start, words, runs: vec![Run { input, room: 60 }] }
+}
+
+/// Both sides full: all sizes, partitions and contexts, real and virtual, locked and not.
+fn full_state() -> Vec<u64> {
+    let mut model = Model::reset();
+    for (i, slot) in model.sides.iter_mut().flatten().enumerate() {
+        let q = (i % SLOTS) as u64;
+        let real = q % 5 == 0;
+        *slot = Some(Entry {
+            partition: q % 8,
+            real,
+            context: if real { 0 } else { q * 130 },
+            page: if q % 2 == 0 { (q + 1) << 28 } else { (q << 28).wrapping_neg() },
+            word: 1 << 63 | q << 30 | [0, 1, 3, 5][q as usize % 4],
+            locked: q % 3 == 0,
+            used: q % 7 != 0,
+        });
+    }
+    let words = model.to_words();
+    assert!(Model::from_words(&words).is_some(), "flips start from a sound state");
+    words
+}
+
+/// Every register number with every single bit and with values around the bounds.
+fn registers() -> Stream {
+    let mut values: Vec<u64> = (0..64).map(|b| 1 << b).collect();
+    values.extend([0, 3, 5, 6, 7, 9, 8190, 8191, 8193, 0x1FEF, 0x1FF0, 0x1FFF, 0x2000, 0x200F, u64::MAX, !0x1FF0]);
+    values.extend((0..8).flat_map(|ps1| (0..8).map(move |ps0| ps1 * 256 + ps0)));
+    let mut commands = Vec::new();
+    for register in 0..=255 {
+        for &value in &values {
+            commands.push(Command::Write { strand: (register % 4), register, value });
+            commands.push(Command::Read { strand: (register % 4), register });
+            commands.push(Command::Pointers { strand: (register % 4), side: (value % 2) as u8 });
+        }
+    }
+    from_reset(1, commands)
+}
+
+/// Each command with each operand byte from 0 to 255, the other operands as they stand.
+fn operands() -> Stream {
+    let word = 1 << 63 | 0x440;
+    let plain = [
+        Command::Write { strand: 1, register: 1, value: 5 },
+        Command::Insert { strand: 1, side: 1, flags: 0, word },
+        Command::DemapPage { strand: 1, side: 1, selector: 0, flags: 0, address: PAGE },
+        Command::DemapContext { strand: 1, side: 1, selector: 0 },
+        Command::DemapAll { strand: 1, side: 1 },
+        Command::Invalidate { side: 1 },
+        Command::Access { strand: 1, kind: 1, selector: 0, size: 3, address: PAGE },
+        Command::Access { strand: 1, kind: 0, selector: 0, size: 2, address: PAGE },
+        Command::Read { strand: 1, register: 21 },
+        Command::Pointers { strand: 1, side: 1 },
+    ];
+    let mut input = Vec::new();
+    for mode in 0..3 {
+        for command in plain {
+            let bytes = encode(command);
+            // Operands of one byte stand in front of those of eight.
+            let small = if bytes.len() > 8 { bytes.len() - 8 } else { bytes.len() };
+            for at in 1..small {
+                for byte in 0..=255 {
+                    input.extend(encode(Command::Write { strand: 1, register: 3, value: mode }));
+                    let mut changed = bytes.clone();
+                    changed[at] = byte;
+                    input.extend(changed);
+                }
+            }
+        }
+    }
+    let room = 24 * input.len() / 13 * 7;
+    Stream { seed: 2, start: Start::Reset, words: Model::reset().to_words(), runs: vec![Run { input, room }] }
+}
+
+/// Every command code, alone and with operands, with and without room.
+fn codes() -> Vec<Stream> {
+    let run = |code: u8, length: usize, room: usize| {
+        let mut input = vec![0; length];
+        input[0] = code;
+        Run { input, room }
+    };
+    let runs = |code: u8| (1..14).flat_map(move |n| [0, 23, 24, 25, 48].map(|room| run(code, n, room))).collect();
+    (0..=255).map(|code| Stream { seed: code as u64, start: Start::Reset, words: Model::reset().to_words(), runs: runs(code) }).collect()
+}
+
+/// All of nfo, ie, e, cp, p, w in one mode, translation and mask, met by every kind, selector and size.
+fn attributes(mode: u64, translation: u64, mask: u64) -> Stream {
+    let mut commands = Vec::new();
+    for (register, value) in [(3, mode), (4, translation), (5, mask), (1, 5), (2, 6)] {
+        commands.push(Command::Write { strand: 2, register, value });
+    }
+    for bits in 0..64u64 {
+        let word = 1 << 63 | (bits >> 5) << 62 | (bits >> 2 & 7) << 10 | (bits >> 1 & 1) << 8 | (bits & 1) << 6 | 0x55_5555_2000;
+        for (side, context, flags) in [(0, 5, 0), (1, 5, 0), (1, 6, 0), (1, 0, 0), (0, 0, 0), (0, 0, 1), (1, 5, 1)] {
+            commands.push(Command::Write { strand: 2, register: 20 + side, value: PAGE | context });
+            commands.push(Command::Insert { strand: 2, side, flags, word });
+        }
+        for kind in 0..6 {
+            for selector in 0..4 {
+                (0..5).for_each(|size| accesses(&mut commands, kind, selector, size));
+            }
+        }
+    }
+    from_reset(3 + 8 * mode + 2 * translation + mask, commands)
+}
+
+fn accesses(commands: &mut Vec<Command>, kind: u8, selector: u8, size: u8) {
+    for address in [PAGE + 0x18, PAGE + 0x1FFC, PAGE + 0x7_0000_0010, 0x0000_8000_4000_0000, PAGE + 1] {
+        commands.push(Command::Access { strand: 2, kind, selector, size, address });
+    }
+}
+
+/// Two entries of one owner, or of two, for each pair of sizes, the second at and around the ends of the first.
+fn neighbours() -> Vec<Stream> {
+    let sizes = [(0, 13), (1, 16), (3, 22), (5, 28)];
+    let mut all = Vec::new();
+    for (one, by) in sizes {
+        for (other, other_by) in sizes {
+            for base in [PAGE, 0xFFFF_FFFF_F000_0000, 0, 0xFFFF_8000_0000_0000] {
+                for (n, near) in [0, 1 << by, (1u64 << by) - 1, 1 << other_by, 1u64.wrapping_neg(), 1 << 13, 1 << 22].into_iter().enumerate() {
+                    let second = base.wrapping_add(near) >> other_by << other_by;
+                    all.extend([0, 1, 1 << 13, 1 << 14].map(|apart| pair([base, one], [second, other], apart, n)));
+                }
+            }
+        }
+    }
+    all
+}
+
+fn pair(one: [u64; 2], other: [u64; 2], apart: u64, n: usize) -> Stream {
+    let mut words = Model::reset().to_words();
+    let at = 128 + 256 * (n % 2);
+    words[at + 4 * (n * 5)..][..4].copy_from_slice(&[0, one[0], 1 << 63 | one[1], 2]);
+    words[at + 4 * (63 - n)..][..4].copy_from_slice(&[apart, other[0], 1 << 63 | other[1], 0]);
+    from_words(4, Start::PlantedOverlap, words)
+}
+
+/// Every state one bit away from a full one and from reset.
+fn flips() -> impl Iterator<Item = Stream> {
+    let starts = [full_state(), Model::reset().to_words()];
+    starts.into_iter().flat_map(|words| {
+        (0..WORDS * 64).map(move |i| {
+            let mut flipped = words.clone();
+            flipped[i / 64] ^= 1 << (i % 64);
+            from_words(5, Start::FlippedBit, flipped)
+        })
+    })
+}
+
+pub fn all() -> impl Iterator<Item = Stream> {
+    let modes = (0..3).flat_map(|mode| (0..4).flat_map(move |translation| (0..2).map(move |mask| attributes(mode, translation, mask))));
+    let lengths = (0..=1400).map(|n| from_words(6, Start::WrongLength, vec![0; n])).filter(|s| s.words.len() != WORDS);
+    [registers(), operands()].into_iter().chain(codes()).chain(modes).chain(neighbours()).chain(flips()).chain(lengths)
+}

@@ -1,0 +1,75 @@
+//! The hand-checked vectors and document 01's printed run, as the stream program takes and prints them.
+use crate::command::{decode, width};
+use crate::ledger::Ledger;
+use crate::library;
+use crate::model::{self, Model, Report};
+
+const INPUT_MOST: usize = 4096;
+const ROOM: usize = 49152;
+
+pub struct Vector {
+    pub name: String,
+    pub input: Vec<u8>,
+    pub output: String,
+}
+
+fn bytes(hex: &str) -> Vec<u8> {
+    (0..hex.len() / 2).map(|i| u8::from_str_radix(&hex[2 * i..2 * i + 2], 16).expect("hexadecimal")).collect()
+}
+
+/// A line `# name`, a line `in` with the input in hexadecimal, the answers, and the line `end ..`.
+pub fn read(text: &str) -> Vec<Vector> {
+    let mut all: Vec<Vector> = Vec::new();
+    for line in text.lines().filter(|l| !l.is_empty()) {
+        if let Some(name) = line.strip_prefix("# ") {
+            all.push(Vector { name: name.to_string(), input: Vec::new(), output: String::new() });
+            continue;
+        }
+        let last = all.last_mut().expect("a name before the first line");
+        match line.strip_prefix("in") {
+            Some(hex) => last.input = bytes(hex.trim()),
+            None => last.output += &format!("{line}\n"),
+        }
+    }
+    all
+}
+
+fn printed(report: Report, output: &[u8]) -> String {
+    let mut text = String::new();
+    for answer in output.chunks(24).take(report.answered) {
+        text += &answer.iter().map(|b| format!("{b:02x}")).collect::<String>();
+        text += "\n";
+    }
+    text + &format!("end {} {} {}\n", report.answered, report.taken, report.stop)
+}
+
+/// What the stream program prints, by the model.
+pub fn by_model(input: &[u8]) -> String {
+    let mut output = vec![0; ROOM];
+    let report = Model::reset().run_commands(&input[..input.len().min(INPUT_MOST)], &mut output);
+    printed(report, &output)
+}
+
+pub fn by_library(input: &[u8]) -> String {
+    let mut state = vec![0; model::WORDS];
+    let mut output = vec![0; ROOM];
+    library::reset(&mut state);
+    let report = library::run(&mut state, &input[..input.len().min(INPUT_MOST)], &mut output);
+    printed(report, &output)
+}
+
+/// The answers by the ledger, fed what the expected lines name as displaced.
+pub fn by_ledger(vector: &Vector) -> String {
+    let mut ledger = Ledger::reset();
+    let (mut at, mut text) = (0, String::new());
+    for line in vector.output.lines() {
+        if line.starts_with("end") {
+            return text + line + "\n";
+        }
+        let given = ledger.answer(decode(&vector.input[at..]), &bytes(line));
+        at += width(vector.input[at]).unwrap_or(1);
+        text += &given.map_or("none".to_string(), |g| g.iter().map(|b| format!("{b:02x}")).collect());
+        text += "\n";
+    }
+    text
+}
