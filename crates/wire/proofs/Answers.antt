@@ -1,10 +1,10 @@
 -- An answer's three words as bytes, and the stores that write them. Assumes nothing.
-use Prim.Native.Nat.{ℕ, _+_, _/_, _%_, _^_, _<_}
+use Prim.Native.Nat.{ℕ, suc, _+_, _-_, _/_, _%_, _^_, _≤_, _<_}
 use mathlib.Core.List.{[], _∷_, _++_}
 use mathlib.Core.Path.{_≡_, refl, ap, _∙_}
 use native.Mathlib.Omega.{arith}
-use native.Mathlib.Numerals.{towards-suc}
-use lib.ListN.{set}
+use native.Mathlib.Numerals.{towards-suc, add-one}
+use lib.ListN.{set, replicate}
 use lib.Seq.{sets}
 use Rattle.laws.proofs.Stores.{sets-append}
 use Rattle.laws.specs.Tests.{tick}
@@ -22,6 +22,14 @@ pub value-stores : (l : Bytes) (i v : ℕ) →
     (i + 4) (v / 2 ^ 24 % 256)) (i + 5) (v / 2 ^ 16 % 256)) (i + 6) (v / 2 ^ 8 % 256)) (i + 7) (v % 256)
     ≡ sets l i (bytes v)
 value-stores l i v = simp towards-suc
+
+-- zeros stored from a position up to an end: one more, and no more
+module _ (l : Bytes) (i end : ℕ) where
+  pub zeros-more : i < end → sets l i (replicate (end - i) 0) ≡ sets (set l i 0) (i + 1) (replicate (end - (i + 1)) 0)
+  zeros-more h = let e : end - i ≡ suc (end - (i + 1)) = omega arith in rw (e, add-one)
+
+  pub zeros-end : end ≤ i → sets l i (replicate (end - i) 0) ≡ l
+  zeros-end h = let e : end - i ≡ 0 = omega arith in rw e
 
 -- two lists are equal where their heads and their tails are
 both : {x y : ℕ} {l m : Bytes} → x ≡ y → l ≡ m → (x ∷ l) ≡ (y ∷ m)

@@ -1,5 +1,5 @@
 -- The command at a position: read at the front of the rest, and told by its width. Assumes nothing.
-use Prim.Native.Nat.{ℕ, _≤_}
+use Prim.Native.Nat.{ℕ, _+_, _-_, _*_, _≤_}
 use mathlib.Core.Bool.{cond}
 use mathlib.Core.Path.{_≡_, refl, sym, _∙_}
 use native.Mathlib.Nat.{add-zero, add-assoc, sub-zero}
@@ -9,7 +9,7 @@ use lib.Dec.{eqb, ltb}
 use lib.ListN.{length, drop, length-drop, drop-of-length-le}
 use lib.Seq.{getD-drop}
 use Rattle.laws.proofs.Bools.{by-test}
-use Rattle.machine.specs.Stream.{Bytes, byte, eight, decodeAt}
+use Rattle.machine.specs.Stream.{Bytes, byte, four, eight, decodeAt}
 use Rattle.machine.specs.declared.Decoded.{Decoded}
 use Rattle.machine.specs.declared.Decoded.the-variants.{Known, Stop}
 use Rattle.wire.specs.Wire.{widthOf, shortOf, valuedOf}
@@ -24,6 +24,10 @@ pub decode-past : (s : Bytes) (at : ℕ) → length s ≤ at → decodeAt s at �
 unfolding decodeAt
 decode-past s at h = sym (decode-rest s at) ∙ rw (drop-of-length-le s)
 
+-- four bytes, each at its place
+pub four-sum : (s : Bytes) (i : ℕ) → four s i ≡ byte s i * 16777216 + byte s (i + 1) * 65536 + byte s (i + 2) * 256 + byte s (i + 3)
+four-sum s i = let e : i + 2 + 1 ≡ i + 3 = omega arith in rw e (omega arith)
+
 -- a byte that is known tells how far the bytes reach
 pub reach : {b k n : ℕ} → b ≡ k → widthOf b ≤ n → widthOf k ≤ n
 reach e h = rw e at h
@@ -33,7 +37,7 @@ abbrev shown : Bytes → ℕ → Decoded
 shown s width =
     cond (eqb width 0) (Stop 2)
     (cond (ltb (length s) width) (Stop 3)
-    (Known (cond (ltb width 11) (shortOf s) (valuedOf s)) width))
+    (Known (cond (ltb width 11) (shortOf s) (valuedOf s (eight s (width - 8)))) width))
 
 -- .. is what is decoded there; and a command has two bytes at least
 abbrev pub Told : Bytes → ℕ → Type 0

@@ -5,7 +5,7 @@ use Prim.Native.Nat.{ℕ, _+_, _*_, _%_, _^_}
 use mathlib.Core.Bool.{cond}
 use lib.Dec.{eqb}
 use Rattle.laws.specs.Tests.{tick}
-use Rattle.machine.specs.Stream.{Bytes, byte, eight}
+use Rattle.machine.specs.Stream.{Bytes, byte}
 use Rattle.machine.specs.Questions.{refusalNumber}
 use Rattle.machine.specs.Access.{trapNumber, trapFault}
 use Rattle.machine.specs.declared.Command.{Command}
@@ -33,12 +33,12 @@ shortOf s =
     (command.Invalidate (byte s 1)))))
 
 -- a command that ends in a value of eight bytes
-abbrev pub valuedOf : Bytes → Command
-valuedOf s =
-    cond (eqb (byte s 0) 2) (command.Insert (byte s 1) (byte s 2) (byte s 3) (eight s 4))
-    (cond (eqb (byte s 0) 3) (command.DemapPage (byte s 1) (byte s 2) (byte s 3) (byte s 4) (eight s 5))
-    (cond (eqb (byte s 0) 7) (command.Access (byte s 1) (byte s 2) (byte s 3) (byte s 4) (record { 0 = eight s 5 }))
-    (command.Write (byte s 1) (byte s 2) (eight s 3))))
+abbrev pub valuedOf : Bytes → ℕ → Command
+valuedOf s value =
+    cond (eqb (byte s 0) 2) (command.Insert (byte s 1) (byte s 2) (byte s 3) value)
+    (cond (eqb (byte s 0) 3) (command.DemapPage (byte s 1) (byte s 2) (byte s 3) (byte s 4) value)
+    (cond (eqb (byte s 0) 7) (command.Access (byte s 1) (byte s 2) (byte s 3) (byte s 4) (record { 0 = value }))
+    (command.Write (byte s 1) (byte s 2) value)))
 
 -- the number of a decode answer that ends the run
 abbrev pub stopOf : Decoded → ℕ

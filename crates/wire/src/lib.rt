@@ -4,7 +4,7 @@ ghost use Prim.Native.Nat.{_+_, _<_, _≤_};
 ghost use lib.ListN.{length};
 ghost use lib.Seq.{sets};
 ghost use Rattle.laws.specs.Tests.{tick};
-ghost use Rattle.machine.specs.Stream.{byte as byteOf, two, four, eight, decodeAt, bytes, answerBytes};
+ghost use Rattle.machine.specs.Stream.{byte as byteOf, four, eight, decodeAt, bytes, answerBytes};
 ghost use Rattle.machine.specs.declared.Answer.the-variants.{Trap as TrapAnswer};
 ghost use Rattle.wire.specs.Wire.{widthOf, shortOf, valuedOf, stopOf, headOf, fieldsOf};
 use machine::Answer;
@@ -22,21 +22,14 @@ fn wide(x: u8) -> u64
     x as u64
 }
 
-// Two, four and eight bytes from a position, big-endian.
-fn two_bytes(s: &[u8], at: usize) -> u64
-    requires { ⌜ at + 2 ≤ length (now s) ⌝ }
-    ensures value { λ r. ⌜ r ≡ two (now (s .entry)) at ⌝ }
-    ensures small { λ r. ⌜ r < 65536 ⌝ }
-{
-    wide(s[at]) * 256 + wide(s[at + 1])
-}
-
+// Four and eight bytes from a position, big-endian. The compiler makes one load of the eight.
 fn four_bytes(s: &[u8], at: usize) -> u64
     requires { ⌜ at + 4 ≤ length (now s) ⌝ }
     ensures value { λ r. ⌜ r ≡ four (now (s .entry)) at ⌝ }
     ensures small { λ r. ⌜ r < 4294967296 ⌝ }
 {
-    two_bytes(s, at) * 0x1_0000 + two_bytes(s, at + 2)
+    let front = wide(s[at]) * 0x100_0000 + wide(s[at + 1]) * 0x1_0000;
+    front + wide(s[at + 2]) * 0x100 + wide(s[at + 3])
 }
 
 fn eight_bytes(s: &[u8], at: usize) -> u64
@@ -64,10 +57,10 @@ fn command_width(byte: u8) -> usize
     }
 }
 
-// A command that ends in a value of eight bytes, at the front of the rest. The arm `_` is write, the shortest.
-fn valued_command(rest: &[u8]) -> Command
+// A command at the front of the rest that ends in a value of eight bytes. The arm `_` is write, the shortest.
+fn valued_command(rest: &[u8], value: u64) -> Command
     requires { ⌜ (11 ≤ length (now rest)) × (widthOf (byteOf (now rest) 0) ≤ length (now rest)) ⌝ }
-    ensures { λ r. ⌜ r ≡ valuedOf (now (rest .entry)) ⌝ }
+    ensures { λ r. ⌜ r ≡ valuedOf (now (rest .entry)) value ⌝ }
 {
     let strand = rest[1];
     match rest[0] {
@@ -75,26 +68,26 @@ fn valued_command(rest: &[u8]) -> Command
             strand,
             side: rest[2],
             flags: rest[3],
-            word: eight_bytes(rest, 4),
+            word: value,
         },
         3 => Command::DemapPage {
             strand,
             side: rest[2],
             selector: rest[3],
             flags: rest[4],
-            address: eight_bytes(rest, 5),
+            address: value,
         },
         7 => Command::Access {
             strand,
             kind: rest[2],
             selector: rest[3],
             size: rest[4],
-            address: VirtualAddress(eight_bytes(rest, 5)),
+            address: VirtualAddress(value),
         },
         _ => Command::Write {
             strand,
             register: rest[2],
-            value: eight_bytes(rest, 3),
+            value,
         },
     }
 }
@@ -142,7 +135,8 @@ fn decode_first(rest: &[u8]) -> Decoded
     if width < 11 {
         return Decoded::Known(short_command(rest), width);
     }
-    Decoded::Known(valued_command(rest), width)
+    let value = eight_bytes(rest, width - 8);
+    Decoded::Known(valued_command(rest, value), width)
 }
 
 // What stands at a position of the stream. Past the end there is no byte, and so none of a command.
@@ -256,8 +250,21 @@ fn fields_of(answer: Answer) -> Fields
     }
 }
 
-// Eight bytes of a value, big-endian.
-fn put_eight(output: &mut [u8], at: usize, v: u64)
+// Eight zero bytes from a position.
+fn put_zeros(output: &mut [u8], at: usize)
+    requires { ⌜ at + 8 ≤ length (now output) ⌝ }
+    ensures { λ _. ⌜ now (output .exit) ≡ sets (now (output .entry)) at (bytes 0) ⌝ }
+{
+    let end = at + 8;
+    let mut i = at;
+    while i < end {
+        output[i] = 0;
+        i += 1;
+    }
+}
+
+// The eight bytes of a value from a position, big-endian.
+fn put_value(output: &mut [u8], at: usize, v: u64)
     requires { ⌜ at + 8 ≤ length (now output) ⌝ }
     ensures { λ _. ⌜ now (output .exit) ≡ sets (now (output .entry)) at (bytes v) ⌝ }
 {
@@ -269,6 +276,18 @@ fn put_eight(output: &mut [u8], at: usize, v: u64)
     output[at + 5] = ((v >> 16) % 256) as u8;
     output[at + 6] = ((v >> 8) % 256) as u8;
     output[at + 7] = (v % 256) as u8;
+}
+
+// The same. With zero told apart, the compiler makes one store of each value in place of eight.
+fn put_eight(output: &mut [u8], at: usize, v: u64)
+    requires { ⌜ at + 8 ≤ length (now output) ⌝ }
+    ensures { λ _. ⌜ now (output .exit) ≡ sets (now (output .entry)) at (bytes v) ⌝ }
+{
+    if v == 0 {
+        put_zeros(output, at);
+    } else {
+        put_value(output, at, v);
+    }
 }
 
 // The 24 bytes of an answer.

@@ -32,14 +32,21 @@ returns-3 c =
     sym (law (whole .before .before) .0 ∙
     simp (ne-eqb _ _ (whole .before .if1 .left), le-ltb _ _ (whole .if2 .left), lt-ltb _ _ (c .before .if3 .taken), c .short-command .ensures))
 
+sub-eight-bytes : tie.Need-sub-eight-bytes
+sub-eight-bytes c = search needs
+
+eight-bytes-requires : tie.Need-eight-bytes-requires
+eight-bytes-requires c κs = search needs
+
 valued-command-requires : tie.Need-valued-command-requires
 valued-command-requires c κs = search needs
 
 returns-4 : tie.Need-returns-4
 returns-4 c =
-    let whole = c .before .before in
+    let value = c .before in
+    let whole = value .before .before in
     sym (law (whole .before .before) .0 ∙
-    simp (ne-eqb _ _ (whole .before .if1 .left), le-ltb _ _ (whole .if2 .left), le-ltb _ _ (c .before .if3 .left), c .valued-command .ensures))
+    simp (ne-eqb _ _ (whole .before .if1 .left), le-ltb _ _ (whole .if2 .left), le-ltb _ _ (value .before .if3 .left), c .valued-command .ensures, value .eight-bytes .ensures))
 
 pub decode-first-spec : {M : Type 1} → statement M
 decode-first-spec =
@@ -51,5 +58,7 @@ decode-first-spec =
     returns-2
     short-command-requires
     returns-3
+    sub-eight-bytes
+    eight-bytes-requires
     valued-command-requires
     returns-4)

@@ -1,0 +1,59 @@
+-- `wire::put_zeros` meets its contract. The invariant: with the zeros that are left, all eight are stored.
+-- Assumes nothing.
+use Prim.Native.Nat.{_+_, _-_, _≤_}
+use mathlib.Core.Path.{_≡_, refl, sym, _∙_}
+use native.Mathlib.Omega.{arith}
+use borrow.Author.Needs.{needs}
+use lib.ListN.{length, replicate, length-set}
+use lib.Seq.{sets}
+use Rattle.wire.proofs.Answers.{zeros-more, zeros-end}
+use Rattle.wire.proofs.put_zeros.Statement.{statement}
+use Rattle.wire.proofs.put_zeros.Tie as tie
+
+abbrev Inv-loop : tie.InvT-loop
+Inv-loop output₀ at end i₀ output i =
+    (i ≤ end) × (length output ≡ length output₀) × (sets output i (replicate (end - i) 0) ≡ sets output₀ at (replicate 8 0))
+
+abbrev μ-loop : tie.MeasureT-loop
+μ-loop output₀ at end i₀ output i = end - i
+
+add-end : tie.Need-add-end Inv-loop μ-loop
+add-end c = search needs
+
+loop-holds : tie.Need-loop-holds Inv-loop μ-loop
+loop-holds c = let e : c .args .at + 8 - c .args .at ≡ 8 = omega arith in (omega arith, refl, rw e)
+
+slice-write-output : tie.Need-slice-write-output Inv-loop μ-loop
+slice-write-output c = omega arith
+
+add-i : tie.Need-add-i Inv-loop μ-loop
+add-i c = omega arith
+
+loop-less : tie.Need-loop-less Inv-loop μ-loop
+loop-less c = omega arith
+
+loop-again : tie.Need-loop-again Inv-loop μ-loop
+loop-again c =
+    let l = c .before .loop in
+    (omega arith, length-set (l .output) (l .i) 0 ∙ l .inv .1, sym (zeros-more (l .output) (l .i) _ (c .loop-test .taken)) ∙ l .inv .2)
+
+same-length : tie.Need-same-length Inv-loop μ-loop
+same-length c = c .before .loop .inv .1
+
+returns : tie.Need-returns Inv-loop μ-loop
+returns c = let l = c .before .loop in sym (zeros-end (l .output) (l .i) _ (c .loop-test .left)) ∙ l .inv .2
+
+pub put-zeros-spec : {M : Type 1} → statement M
+put-zeros-spec =
+    tie.close
+    (tie.spec
+    Inv-loop
+    μ-loop
+    add-end
+    loop-holds
+    slice-write-output
+    add-i
+    loop-less
+    loop-again
+    same-length
+    returns)
