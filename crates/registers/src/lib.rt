@@ -1,7 +1,9 @@
 // Registers: document 01, "Registers". Which numbers there are and the values that they may hold.
 ghost use mathlib.Core.Path.{_≡_};
-ghost use Prim.Native.Nat.{_%_};
+ghost use Prim.Native.Nat.{_+_, _%_, _≤_};
+ghost use lib.ListN.{length};
 ghost use Rattle.machine.specs.Registers.{known, writable, baseAllowed, configurationAllowed, allowed, registersSound};
+ghost use Rattle.registers.specs.Cells.{Alike, Told};
 
 // 0 to 5 and 8 to 25.
 pub fn is_known(number: u8) -> bool
@@ -65,10 +67,52 @@ pub fn is_allowed(number: u8, value: u64) -> bool
     }
 }
 
-fn cell_number(i: usize) -> u8
-    ensures { λ r. ⌜ r ≡ i % 32 ⌝ }
+// Whether each of the cells from .. to holds a value that its register may hold. All may hold what the register given may: a number that
+// the compiler knows leaves one arm of the match.
+fn cells_fit(file: &[u64], from: usize, to: usize, number: u8) -> bool
+    requires { ⌜ (length (now file) ≡ 128) × (to ≤ 128) × Alike from to number ⌝ }
+    ensures { λ r. ⌜ Told (now (file .entry)) from to r ⌝ }
 {
-    (i % 32) as u8
+    let mut i = from;
+    while i < to {
+        if !is_allowed(number, file[i]) {
+            return false;
+        }
+        i += 1;
+    }
+    true
+}
+
+// The same of a strand's 32 cells; 20 to 25 hold any value.
+fn strand_fits(file: &[u64], start: usize) -> bool
+    requires { ⌜ (length (now file) ≡ 128) × (start + 32 ≤ 128) × (start % 32 ≡ 0) ⌝ }
+    ensures { λ r. ⌜ Told (now (file .entry)) start (start + 32) r ⌝ }
+{
+    if !cells_fit(file, start, start + 1, 0) {
+        return false;
+    }
+    if !cells_fit(file, start + 1, start + 3, 1) {
+        return false;
+    }
+    if !cells_fit(file, start + 3, start + 4, 3) {
+        return false;
+    }
+    if !cells_fit(file, start + 4, start + 5, 4) {
+        return false;
+    }
+    if !cells_fit(file, start + 5, start + 6, 5) {
+        return false;
+    }
+    if !cells_fit(file, start + 6, start + 8, 6) {
+        return false;
+    }
+    if !cells_fit(file, start + 8, start + 16, 8) {
+        return false;
+    }
+    if !cells_fit(file, start + 16, start + 20, 16) {
+        return false;
+    }
+    cells_fit(file, start + 26, start + 32, 26)
 }
 
 // Whether a register file has 128 cells and each holds a value that its register may hold.
@@ -78,12 +122,12 @@ pub fn file_sound(file: &[u64]) -> bool
     if file.len() != 128 {
         return false;
     }
-    let mut i = 0;
-    while i < 128 {
-        if !is_allowed(cell_number(i), file[i]) {
+    let mut start = 0;
+    while start < 128 {
+        if !strand_fits(file, start) {
             return false;
         }
-        i += 1;
+        start += 32;
     }
     true
 }

@@ -17,7 +17,7 @@ use Rattle.machine.specs.Pages.{pageShift, pageSize, pageStart}
 use Rattle.machine.proofs.Pages.{start-block}
 use Rattle.machine.specs.Slots.{isLive, sizeCode, holds}
 use Rattle.machine.specs.Insertion.{overlaps}
-use Rattle.tlb.specs.Tables.{byCode, startsOf, spansOf, answersAt}
+use Rattle.tlb.specs.Tables.{byCode, startsOf, spansOf, answersBy, answersAt}
 
 -- a table at a size code
 by-code : (other : ℕ) (f : ℕ → ℕ) (code : ℕ) → other ≡ f 0 → code < 16 → getD (byCode other f) code 0 ≡ f (pageShift code)
@@ -40,7 +40,7 @@ start-at : (a code : ℕ) → code < 16 → getD (startsOf a) code 0 ≡ pageSta
 unfolding startsOf
 start-at a code h = by-code a (λ k. a / 2 ^ k * 2 ^ k) code (omega arith) h
 
-span-at : (x code : ℕ) → code < 16 → getD (spansOf (pageSize x)) code 0 ≡ max (pageSize x) (pageSize code)
+pub span-at : (x code : ℕ) → code < 16 → getD (spansOf (pageSize x)) code 0 ≡ max (pageSize x) (pageSize code)
 unfolding spansOf
 span-at x code h = by-code (pageSize x) (λ k. max (pageSize x) (2 ^ k)) code (sym (max-eq-left (pow-pos (pageShift x)))) h
 
@@ -48,30 +48,17 @@ span-at x code h = by-code (pageSize x) (λ k. max (pageSize x) (2 ^ k)) code (s
 page-asked : (x : Slot) (a : ℕ) → holds x a ≡ eqb (getD (startsOf a) (sizeCode x) 0) (x .page)
 page-asked x a = ap (λ (n : ℕ). eqb n (x .page)) (sym (start-at a (sizeCode x) (omega arith)))
 
--- ---- a search of an owner's slots for an address
-module _ (owner address : ℕ) (x : Slot) where
-  pub asked-owner : (x .owner ≡ owner → ⊥) → answersAt owner address x ≡ false
-  unfolding answersAt
-  asked-owner h = rw (ne-eqb (x .owner) owner h) (and-no (isLive x))
-
-  pub asked-page : (x .page ≡ getD (startsOf address) (sizeCode x) 0 → ⊥) → answersAt owner address x ≡ false
-  unfolding answersAt
-  asked-page h = rw (page-asked x address ∙ ne-eqb _ (x .page) (λ e. h (sym e)), and-no (eqb (x .owner) owner)) (and-no (isLive x))
-
-  pub asked-live : (x .word / 2 ^ 63 ≡ 1 → ⊥) → answersAt owner address x ≡ false
-  unfolding answersAt
-  asked-live h = rw (ne-eqb (x .word / 2 ^ 63) 1 h)
-
-  pub asked-all : x .owner ≡ owner → x .page ≡ getD (startsOf address) (sizeCode x) 0 → x .word / 2 ^ 63 ≡ 1 → answersAt owner address x ≡ true
-  unfolding answersAt
-  asked-all o p v = rw (eq-eqb (x .word / 2 ^ 63) 1 v, eq-eqb (x .owner) owner o) (page-asked x address ∙ eq-eqb _ (x .page) (sym p))
+-- to answer by the prepared starts is to answer
+pub asked : (owner address : ℕ) (x : Slot) → answersBy owner (startsOf address) x ≡ answersAt owner address x
+unfolding answersBy answersAt
+asked owner address x = rw (page-asked x address)
 
 -- ---- whether x overlaps y
 xor-zero : (a b : ℕ) → bitXor a b ≡ 0 → a ≡ b
 xor-zero a b h = omega (arith, xor-add-and a b, and-le-l a b, and-le-r a b)
 
 -- numbers of one block of 2 ^ k have a xor below 2 ^ k
-near : (a b k : ℕ) → a / 2 ^ k ≡ b / 2 ^ k → bitXor a b < 2 ^ k
+pub near : (a b k : ℕ) → a / 2 ^ k ≡ b / 2 ^ k → bitXor a b < 2 ^ k
 near a b k e =
     let z : bitXor a b / 2 ^ k ≡ 0 = xor-shr a b k ∙ ap (λ (n : ℕ). bitXor n (b / 2 ^ k)) e ∙ xor-self (b / 2 ^ k) in
     let p : bitXor a b < 1 * 2 ^ k = div-lt-iff-lt-mul {y = 1} (pow-pos k) .0 (omega arith) in
@@ -98,7 +85,7 @@ over-far x y h =
 near-holds : (x : Slot) (a : ℕ) → pageStart (sizeCode x) (x .page) ≡ x .page → bitXor (x .page) a < pageSize (sizeCode x) → holds x a ≡ true
 near-holds x a s h = eq-eqb _ (x .page) (ap (λ (n : ℕ). n * pageSize (sizeCode x)) (sym (one-block (x .page) a (pageShift (sizeCode x)) h)) ∙ s)
 
--- ---- what a walk of slots whose pages are at page starts asks: the xor of the starts, the owner, then bit 63
+-- ---- by the owner and by bit 63 of any slots; by the xor of the starts of slots whose pages are at page starts
 module _ (x y : Slot) where
   pub over-owner : (y .owner ≡ x .owner → ⊥) → overlaps x y ≡ false
   unfolding overlaps

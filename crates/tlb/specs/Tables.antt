@@ -5,8 +5,8 @@ use Prim.Native.Nat.{ℕ, _*_, _/_, _^_, max}
 use mathlib.Core.List.{List}
 use mathlib.Core.Bool.{Bool, _&&_}
 use lib.Dec.{eqb}
-use lib.ListN.{set, replicate}
-use Rattle.machine.specs.Slots.{isLive, holds}
+use lib.ListN.{getD, set, replicate}
+use Rattle.machine.specs.Slots.{isLive, holds, sizeCode}
 use Rattle.machine.specs.declared.Slot.{Slot}
 
 -- f of the page shift at a listed size code, and another number at the others
@@ -20,6 +20,10 @@ startsOf a = byCode a (λ k. a / 2 ^ k * 2 ^ k)
 -- the larger of two page sizes
 unfoldable pub spansOf : ℕ → List ℕ
 spansOf size = byCode size (λ k. max size (2 ^ k))
+
+-- a live slot of the owner whose page has the start that a table gives for its size code
+unfoldable pub answersBy : ℕ → List ℕ → Slot → Bool
+answersBy owner start x = isLive x && (eqb (x .owner) owner && eqb (getD start (sizeCode x) 0) (x .page))
 
 -- a live slot of the owner whose page holds the address
 unfoldable pub answersAt : ℕ → ℕ → Slot → Bool

@@ -4,9 +4,10 @@ ghost use mathlib.Core.Bool.{not};
 ghost use Prim.Native.Nat.{_+_, _*_, _<_, _≤_, _%_, max};
 ghost use lib.ListN.{length, drop};
 ghost use Rattle.laws.specs.Tests.{anyOf, first};
-ghost use Rattle.machine.specs.Slots.{slotsOf, wordsOf, slotOf, withSlot, onSlot, ownerWord, keyOwner, keyAddress, isLive, pageMatch, search, withUsed, clearUsed};
+ghost use Rattle.machine.specs.Pages.{pageSize};
+ghost use Rattle.machine.specs.Slots.{slotsOf, wordsOf, slotOf, withSlot, onSlot, ownerWord, keyOwner, keyAddress, isLive, pageMatch, search, withUsed, clearUsed, sizeCode};
 ghost use Rattle.machine.specs.Insertion.{overlaps};
-ghost use Rattle.tlb.specs.Tables.{startsOf, spansOf, answersAt};
+ghost use Rattle.tlb.specs.Tables.{startsOf, spansOf, answersBy, answersAt};
 use laws::Found;
 use machine::Key;
 use machine::PageMatch;
@@ -107,6 +108,24 @@ fn starts(address: u64) -> [u64; 16]
     start
 }
 
+// Whether slot i is live, of the owner, and of a page with the start that is given for its size code.
+fn answers_at(slots: &[u64], i: usize, owner: u64, start: &[u64; 16]) -> bool
+    requires { ⌜ i * 4 + 4 ≤ length (now slots) ⌝ }
+    ensures { λ r. ⌜ r ≡ answersBy owner (now (start .entry)) (slotOf (now (slots .entry)) i) ⌝ }
+{
+    let k = i * 4;
+    if slots[k] != owner {
+        return false;
+    }
+    let word = slots[k + 2];
+    let code = (word % 16) as usize;
+    if slots[k + 1] != start[code] {
+        return false;
+    }
+    // an empty slot looks like owner 0, page 0
+    word >> 63 == 1
+}
+
 // The lowest live slot of the owner whose page holds the address.
 fn search_owner(slots: &[u64], owner: u64, address: u64) -> Found
     ensures { λ r. ⌜ r ≡ first (answersAt owner address) (slotsOf (now (slots .entry))) ⌝ }
@@ -115,16 +134,8 @@ fn search_owner(slots: &[u64], owner: u64, address: u64) -> Found
     let n = slots.len() / 4;
     let mut i = 0;
     while i < n {
-        let k = i * 4;
-        if slots[k] == owner {
-            let word = slots[k + 2];
-            let code = (word % 16) as usize;
-            if slots[k + 1] == start[code] {
-                // an empty slot looks like owner 0, page 0
-                if word >> 63 == 1 {
-                    return Found::At(i);
-                }
-            }
+        if answers_at(slots, i, owner, &start) {
+            return Found::At(i);
         }
         i += 1;
     }
@@ -205,6 +216,21 @@ pub fn spans(size: u64) -> [u64; 16]
     span
 }
 
+// Whether x overlaps slot j; the spans are those of x's page size. Most slots are far off, and are not asked for their owner.
+fn overlaps_at(slots: &[u64], j: usize, x: Slot, span: &[u64; 16]) -> bool
+    requires { ⌜ (j * 4 + 4 ≤ length (now slots)) × (now span ≡ spansOf (pageSize (sizeCode x))) ⌝ }
+    ensures { λ r. ⌜ r ≡ overlaps x (slotOf (now (slots .entry)) j) ⌝ }
+{
+    let k = j * 4;
+    let code = (slots[k + 2] % 16) as usize;
+    let distance = x.page ^ slots[k + 1];
+    // starts whose xor is the larger page size or more lie in no common page
+    if distance >= span[code] {
+        return false;
+    }
+    overlap(x, slot_at(slots, j))
+}
+
 // Whether x overlaps none of the slots from the one given on.
 pub fn overlaps_none(slots: &[u64], x: Slot, from: usize) -> bool
     ensures { λ r. ⌜ r ≡ not (anyOf (overlaps x) (drop from (slotsOf (now (slots .entry))))) ⌝ }
@@ -213,15 +239,8 @@ pub fn overlaps_none(slots: &[u64], x: Slot, from: usize) -> bool
     let n = slots.len() / 4;
     let mut j = from;
     while j < n {
-        let k = j * 4;
-        let code = (slots[k + 2] % 16) as usize;
-        let distance = x.page ^ slots[k + 1];
-        // starts whose xor is the larger page size or more lie in no common page
-        if distance < span[code] {
-            let y = slot_at(slots, j);
-            if overlap(x, y) {
-                return false;
-            }
+        if overlaps_at(slots, j, x, &span) {
+            return false;
         }
         j += 1;
     }

@@ -1,13 +1,14 @@
 // Soundness of the slots of one side: document 01, "Sound means". Any number of slots.
 ghost use mathlib.Core.Path.{_≡_};
 ghost use mathlib.Core.Bool.{true, false, not};
-ghost use Prim.Native.Nat.{_+_, _-_, _<_, _≤_};
-ghost use lib.ListN.{drop};
+ghost use Prim.Native.Nat.{_+_, _-_, _*_, _<_, _≤_};
+ghost use lib.ListN.{length, drop};
 ghost use Rattle.laws.specs.Tests.{anyOf, allOf, pairwise};
 ghost use Rattle.machine.specs.Pages.{pageSize};
-ghost use Rattle.machine.specs.Slots.{slotsOf, isLive};
+ghost use Rattle.machine.specs.Slots.{slotsOf, slotOf, isLive, sizeCode};
 ghost use Rattle.machine.specs.Insertion.{overlaps};
 ghost use Rattle.machine.specs.Sound.{ownerSound, pageSound, liveSound, emptySound, slotSound, sideSound};
+ghost use Rattle.tlb.specs.Tables.{spansOf};
 ghost use Rattle.tlb_sound.specs.Buckets.{largestCode, blockShift, bucketOf};
 use machine::Slot;
 
@@ -122,6 +123,27 @@ pub fn bucket(owner: u64, page: u64, shift: u64) -> usize
     ((page >> shift ^ mixed) % 1024) as usize
 }
 
+// Whether a live x overlaps slot j. Both are sound, and the spans are those of x's page size.
+fn overlaps_sound(slots: &[u64], j: usize, x: Slot, span: &[u64; 16]) -> bool
+    requires { ⌜ (j * 4 + 4 ≤ length (now slots)) × (isLive x ≡ true) × (slotSound x ≡ true) × (slotSound (slotOf (now slots) j) ≡ true)
+        × (now span ≡ spansOf (pageSize (sizeCode x))) ⌝ }
+    ensures { λ r. ⌜ r ≡ overlaps x (slotOf (now (slots .entry)) j) ⌝ }
+{
+    let k = j * 4;
+    let word = slots[k + 2];
+    let code = (word % 16) as usize;
+    let distance = x.page ^ slots[k + 1];
+    // page starts lie in a common page where their xor is below the larger page size
+    if distance >= span[code] {
+        return false;
+    }
+    if slots[k] != x.owner {
+        return false;
+    }
+    // an empty slot looks like owner 0, page 0
+    word >> 63 == 1
+}
+
 // Whether a live x overlaps none of the slots from the one given on. All are sound.
 fn clear_of_later(slots: &[u64], x: Slot, from: usize) -> bool
     requires { ⌜ (isLive x ≡ true) × (slotSound x ≡ true) × (allOf slotSound (slotsOf (now slots)) ≡ true) ⌝ }
@@ -131,18 +153,8 @@ fn clear_of_later(slots: &[u64], x: Slot, from: usize) -> bool
     let n = slots.len() / 4;
     let mut j = from;
     while j < n {
-        let k = j * 4;
-        let word = slots[k + 2];
-        let code = (word % 16) as usize;
-        let distance = x.page ^ slots[k + 1];
-        // page starts lie in a common page where their xor is below the larger page size
-        if distance < span[code] {
-            if slots[k] == x.owner {
-                // an empty slot looks like owner 0, page 0
-                if word >> 63 == 1 {
-                    return false;
-                }
-            }
+        if overlaps_sound(slots, j, x, &span) {
+            return false;
         }
         j += 1;
     }

@@ -7,6 +7,7 @@ ghost use lib.ListN.{length};
 ghost use Rattle.laws.specs.Tests.{tick, count, first};
 ghost use Rattle.machine.specs.Slots.{slotsOf, wordsOf, slotOf, withSlot, onSlot, isLive, partitionOf, isLocked, answersTo};
 ghost use Rattle.machine.specs.Insertion.{overlaps, emptiedBy, removed, removes, entryOf, candidate, wants, choice, stored, displacedBy, inserted, placed, hasSlot};
+ghost use Rattle.tlb_update.specs.Sieves.{sieveNear, sieveOwners, Sifts, Others};
 use laws::Found;
 use machine::Choice;
 use machine::Key;
@@ -64,6 +65,59 @@ pub fn takes(which: Removal, x: Slot) -> bool
     }
 }
 
+// What every slot that a removal takes has: an owner whose xor with this one is at most the spread, and a page start whose xor with this one is
+// at most the reach of its size code. It turns down most slots at once, and the others are asked in full.
+struct Sieve {
+    owner: u64,
+    spread: u64,
+    page: u64,
+    reach: [u64; 16],
+}
+
+// One owner's pages that start near an address, or near a page of the size.
+fn sieve_near(owner: u64, page: u64, size: u64) -> Sieve
+    ensures { λ r. ⌜ r ≡ sieveNear owner page size ⌝ }
+{
+    Sieve {
+        owner: owner,
+        spread: 0,
+        page: page,
+        reach: tlb::spans(size),
+    }
+}
+
+// Whatever page the owners have.
+fn sieve_owners(owner: u64, spread: u64) -> Sieve
+    ensures { λ r. ⌜ r ≡ sieveOwners owner spread ⌝ }
+{
+    Sieve {
+        owner: owner,
+        spread: spread,
+        page: 0,
+        reach: [u64::MAX; 16],
+    }
+}
+
+// The sieve of a removal. An address is a page of one byte.
+fn sieve_of(which: Removal) -> Sieve
+    ensures { λ r. ⌜ Sifts which r ⌝ }
+{
+    match which {
+        Removal::Page(key) => sieve_near(tlb::key_owner(key), tlb::key_address(key), 1),
+        Removal::Context { partition, context } => {
+            let owner = tlb::owner_word(partition, false, context);
+            sieve_owners(owner, 0)
+        }
+        Removal::Unlocked { partition } => sieve_owners(partition << 14, 0x3FFF),
+        Removal::Everything => sieve_owners(0, u64::MAX),
+        Removal::Overlapping(new) => sieve_near(
+            new.owner,
+            new.page,
+            pages::page_size(new.word % 16),
+        ),
+    }
+}
+
 // Empties slot i where the removal takes it; 1 where it did.
 fn remove_at(slots: &mut [u64], i: usize, which: Removal) -> u64
     requires { ⌜ i * 4 + 4 ≤ length (now slots) ⌝ }
@@ -84,17 +138,49 @@ fn remove_at(slots: &mut [u64], i: usize, which: Removal) -> u64
     0
 }
 
+// A number of slots, from the first on, whose owners the sieve turns down. Most removals are of an owner with few entries: four slots a turn.
+fn skip(slots: &[u64], owner: u64, spread: u64) -> usize
+    ensures { λ r. ⌜ Others owner spread (now (slots .entry)) r ⌝ }
+{
+    let n = slots.len() / 4;
+    let mut i = 0;
+    while i + 3 < n {
+        let k = i * 4;
+        if owner ^ slots[k] <= spread {
+            return i;
+        }
+        if owner ^ slots[k + 4] <= spread {
+            return i;
+        }
+        if owner ^ slots[k + 8] <= spread {
+            return i;
+        }
+        if owner ^ slots[k + 12] <= spread {
+            return i;
+        }
+        i += 4;
+    }
+    i
+}
+
 // Empties every slot that the removal takes, and counts them.
 pub fn remove(slots: &mut [u64], which: Removal) -> u64
     requires { ⌜ length (now slots) % 4 ≡ 0 ⌝ }
     ensures words { λ r. ⌜ now (slots .exit) ≡ wordsOf (removed (removes which) (slotsOf (now (slots .entry)))) ⌝ }
     ensures count { λ r. ⌜ r ≡ count (removes which) (slotsOf (now (slots .entry))) ⌝ }
 {
+    let f = sieve_of(which);
     let n = slots.len() / 4;
     let mut taken = 0;
-    let mut i = 0;
+    let mut i = skip(slots, f.owner, f.spread);
     while i < n {
-        taken += remove_at(slots, i, which);
+        let k = i * 4;
+        if f.owner ^ slots[k] <= f.spread {
+            let code = (slots[k + 2] % 16) as usize;
+            if f.page ^ slots[k + 1] <= f.reach[code] {
+                taken += remove_at(slots, i, which);
+            }
+        }
         i += 1;
     }
     taken

@@ -1,10 +1,9 @@
 -- `registers::is_allowed` meets its contract: by the ranges of its arms.
 use mathlib.Core.Logic.{⊎-elim}
-use mathlib.Core.Path.{_∙_}
+use mathlib.Core.Path.{sym, _∙_}
 use native.Mathlib.Omega.{arith}
 use borrow.Author.Needs.{needs}
-use borrow.Author.Tests.{lt-ltb, le-ltb}
-use Rattle.machine.specs.Registers.{allowed}
+use Rattle.registers.proofs.Ranges.{from-0, from-1, from-3, from-4, from-5, from-6, from-8, from-16, from-20, from-26}
 use Rattle.registers.proofs.is_allowed.Tie as tie
 use Rattle.registers.proofs.is_allowed.Statement.{statement}
 
@@ -15,44 +14,39 @@ is-configuration-requires : tie.Need-is-configuration-requires
 is-configuration-requires c κs = search needs
 
 returns : tie.Need-returns
-unfolding allowed
-returns c = let r = c .before .args .number in simp (lt-ltb r 1 (omega arith))
+returns c = let a = c .before .args in sym (from-0 (a .number) (a .value) (omega arith))
 
 returns-2 : tie.Need-returns-2
-unfolding allowed
-returns-2 c = let r = c .before .args .number in simp (le-ltb r 1 (omega arith), le-ltb r 3 (omega arith), lt-ltb r 4 (omega arith))
+returns-2 c = let a = c .before .args in sym (from-3 (a .number) (a .value) (omega arith) (omega arith))
 
 returns-3 : tie.Need-returns-3
-unfolding allowed
-returns-3 c = let r = c .before .args .number in simp (le-ltb r 1 (omega arith), le-ltb r 3 (omega arith), le-ltb r 4 (omega arith), lt-ltb r 5 (omega arith))
+returns-3 c = let a = c .before .args in sym (from-4 (a .number) (a .value) (omega arith) (omega arith))
 
 returns-4 : tie.Need-returns-4
-unfolding allowed
-returns-4 c = let r = c .before .args .number in simp (le-ltb r 1 (omega arith), le-ltb r 3 (omega arith), le-ltb r 4 (omega arith), le-ltb r 5 (omega arith), lt-ltb r 6 (omega arith))
+returns-4 c = let a = c .before .args in sym (from-5 (a .number) (a .value) (omega arith) (omega arith))
 
 returns-5 : tie.Need-returns-5
-unfolding allowed
-returns-5 c = let r = c .before .before .args .number in simp (le-ltb r 1 (omega arith), lt-ltb r 3 (omega arith))
+returns-5 c = let a = c .before .before .args in sym (from-1 (a .number) (a .value) (omega arith) (omega arith))
 
 returns-6 : tie.Need-returns-6
-unfolding allowed
-returns-6 c = c .is-base .ensures ∙ (let r = c .before .before .before .before .before .args .number in simp (le-ltb r 1 (omega arith), le-ltb r 3 (omega arith), le-ltb r 4 (omega arith), le-ltb r 5 (omega arith), le-ltb r 6 (omega arith), le-ltb r 8 (omega arith), lt-ltb r 16 (omega arith)))
+returns-6 c =
+    let a = c .before .before .before .before .before .args in
+    c .is-base .ensures ∙ sym (from-8 (a .number) (a .value) (omega arith) (omega arith))
 
 returns-7 : tie.Need-returns-7
-unfolding allowed
-returns-7 c = c .is-configuration .ensures ∙ (let r = c .before .before .before .before .before .before .args .number in simp (le-ltb r 1 (omega arith), le-ltb r 3 (omega arith), le-ltb r 4 (omega arith), le-ltb r 5 (omega arith), le-ltb r 6 (omega arith), le-ltb r 8 (omega arith), le-ltb r 16 (omega arith), lt-ltb r 20 (omega arith)))
+returns-7 c =
+    let a = c .before .before .before .before .before .before .args in
+    c .is-configuration .ensures ∙ sym (from-16 (a .number) (a .value) (omega arith) (omega arith))
 
 returns-8 : tie.Need-returns-8
-unfolding allowed
-returns-8 c = let r = c .before .before .before .before .before .before .args .number in simp (le-ltb r 1 (omega arith), le-ltb r 3 (omega arith), le-ltb r 4 (omega arith), le-ltb r 5 (omega arith), le-ltb r 6 (omega arith), le-ltb r 8 (omega arith), le-ltb r 16 (omega arith), le-ltb r 20 (omega arith), lt-ltb r 26 (omega arith))
+returns-8 c = let a = c .before .before .before .before .before .before .args in sym (from-20 (a .number) (a .value) (omega arith) (omega arith))
 
 returns-9 : tie.Need-returns-9
-unfolding allowed
 returns-9 c =
-    let r = c .before .before .before .args .number in
+    let a = c .before .before .before .args in
     ⊎-elim
-    (λ w. simp (le-ltb r 1 (omega arith), le-ltb r 3 (omega arith), le-ltb r 4 (omega arith), le-ltb r 5 (omega arith), le-ltb r 6 (omega arith), lt-ltb r 8 (omega arith)))
-    (λ w. simp (le-ltb r 1 (omega arith), le-ltb r 3 (omega arith), le-ltb r 4 (omega arith), le-ltb r 5 (omega arith), le-ltb r 6 (omega arith), le-ltb r 8 (omega arith), le-ltb r 16 (omega arith), le-ltb r 20 (omega arith), le-ltb r 26 (omega arith)))
+    (λ w. sym (from-6 (a .number) (a .value) (omega arith) (omega arith)))
+    (λ w. sym (from-26 (a .number) (a .value) (omega arith)))
     (c .if2 .came)
 
 pub is-allowed-spec : {M : Type 1} → statement M

@@ -1,63 +1,122 @@
--- `tlb_update::remove` meets its contract. The invariant: the first i slots are emptied where the removal takes them, the others are as they were,
--- and those taken so far with those from i on are all that it takes.
-use Prim.Native.Nat.{ℕ, _≤_, _-_, _+_}
-use mathlib.Core.Path.{_≡_, ap, _∙_}
+-- `tlb_update::remove` meets its contract. The invariant is that of `Walked`.
+use Prim.Native.Nat.{ℕ, _-_, _+_, _*_}
+use mathlib.Core.Path.{_≡_, _∙_}
+use mathlib.Core.Logic.{⊎-elim}
 use native.Mathlib.Omega.{arith}
 use mathlib.Core.List.{List}
-use lib.ListN.{length, drop}
-use Rattle.laws.specs.Tests.{tick, count}
+use lib.ListN.{length}
+use Rattle.laws.specs.Tests.{tick}
 use Rattle.laws.proofs.Counts.{count-rest}
-use Rattle.laws.proofs.Walks.{count-step, count-end}
-use Rattle.machine.specs.declared.Slot.{Slot}
+use Rattle.laws.proofs.Walks.{count-end}
 use Rattle.machine.specs.Slots.{slotsOf, slotOf, noSlot, onSlot}
 use Rattle.machine.specs.Insertion.{emptiedBy, removes}
-use Rattle.machine.proofs.Slots.{slots-length, replaced, replace-start, replace-turn, replace-end, replace-length}
-use Rattle.machine.proofs.Slots.{replace-read}
+use Rattle.machine.proofs.Slots.{slots-length, slotAt, replace-end}
+use Rattle.tlb_update.specs.Sieves.{Passes}
+use Rattle.tlb_update.proofs.Sifted.{turned-down}
+use Rattle.tlb_update.proofs.Walked.{Walked, walked-length, walked-turn, walked-past, walked-on}
+use borrow.Author.Needs.{needs}
 use Rattle.tlb_update.proofs.remove.Statement.{statement}
 use Rattle.tlb_update.proofs.remove.Tie as tie
 
 abbrev Inv-loop : tie.InvT-loop
-Inv-loop slots₀ which n taken₀ i₀ slots taken i =
-    (i ≤ n)
-    × (slots ≡ replaced (emptiedBy (removes which)) i slots₀)
-    × (taken + count (removes which) (drop i (slotsOf slots₀)) ≡ count (removes which) (slotsOf slots₀))
+Inv-loop slots₀ which f n taken₀ i₀ slots taken i = Walked (removes which) slots₀ i slots taken
 
 abbrev μ-loop : tie.MeasureT-loop
-μ-loop slots₀ which n taken₀ i₀ slots taken i = n - i
+μ-loop slots₀ which f n taken₀ i₀ slots taken i = n - i
+
+sieve-of-requires : tie.Need-sieve-of-requires Inv-loop μ-loop
+sieve-of-requires c κs = search needs
+
+skip-requires : tie.Need-skip-requires Inv-loop μ-loop
+skip-requires c κs = search needs
 
 loop-holds : tie.Need-loop-holds Inv-loop μ-loop
-loop-holds c = (omega arith, replace-start (emptiedBy (removes (c .before .args .which))) (c .before .args .slots .now) (c .before .pre), omega arith)
+loop-holds c =
+    let sieve = c .before .before in
+    let s = sieve .before .before in
+    let l = s .args .slots .now in
+    let which = s .args .which in
+    let others = c .skip .ensures in
+    walked-on (removes which) l (c .skip .result) (s .pre) (others .0) (λ j h.
+    turned-down which (sieve .sieve-of .result) l j (omega (arith, h, others .0)) (λ k. omega (arith, sieve .before .slice-known .given k)) (sieve .sieve-of .ensures)
+    (λ q. omega (arith, q .0, others .1 j h)))
 
 -- the length stays
-same : (c : tie.At-loop Inv-loop μ-loop) → length (c .loop .slots) ≡ length (c .before .before .args .slots .now)
+same : (c : tie.At-loop Inv-loop μ-loop) → length (c .loop .slots) ≡ length (c .before .before .before .before .before .args .slots .now)
 same c =
-    let s = c .before .before in
-    ap length (c .loop .inv .1) ∙ replace-length (emptiedBy (removes (s .args .which))) (s .args .slots .now) _ (s .pre)
+    let s = c .before .before .before .before .before in
+    walked-length (removes (s .args .which)) (s .args .slots .now) (c .loop .i) (c .loop .taken) (c .loop .slots) (s .pre) (c .loop .inv)
+
+mul-k : tie.Need-mul-k Inv-loop μ-loop
+mul-k c = omega arith
+
+mul-if1 : tie.Need-mul-if1 Inv-loop μ-loop
+mul-if1 c = omega arith
+
+slice-read-if1 : tie.Need-slice-read-if1 Inv-loop μ-loop
+slice-read-if1 c = omega (arith, same (c .before .before))
+
+add-code : tie.Need-add-code Inv-loop μ-loop
+add-code c = omega arith
+
+mul-code : tie.Need-mul-code Inv-loop μ-loop
+mul-code c = omega arith
+
+slice-read-code : tie.Need-slice-read-code Inv-loop μ-loop
+slice-read-code c = omega (arith, same (c .before .before .before .before))
+
+add-if2 : tie.Need-add-if2 Inv-loop μ-loop
+add-if2 c = omega arith
+
+mul-if2 : tie.Need-mul-if2 Inv-loop μ-loop
+mul-if2 c = omega arith
+
+slice-read-if2 : tie.Need-slice-read-if2 Inv-loop μ-loop
+slice-read-if2 c = omega (arith, same (c .before .before .before .before .before))
+
+mul-if2-2 : tie.Need-mul-if2-2 Inv-loop μ-loop
+mul-if2-2 c = omega arith
+
+element-copy-out-if2 : tie.Need-element-copy-out-if2 Inv-loop μ-loop
+element-copy-out-if2 c = omega arith
 
 remove-at-requires : tie.Need-remove-at-requires Inv-loop μ-loop
-remove-at-requires c κs = omega (arith, same (c .before .before))
+remove-at-requires c κs = omega (arith, same (c .before .before .before .before .before .before .before .before))
 
--- those taken with slot i, and those after it, are all
-told : (c : tie.After-slice-known2 Inv-loop μ-loop) →
-    let at = c .before .before .before .before .before in
-    let a = at .before .before .args in
-    let s = slotsOf (a .slots .now) in
-    at .loop .taken + c .before .before .remove-at .result + count (removes (a .which)) (drop (at .loop .i + 1) s) ≡ count (removes (a .which)) s
-told c =
-    let at = c .before .before .before .before .before in
-    let a = at .before .before .args in
-    let l = a .slots .now in
+-- a slot that the sieve turns down stays
+down : (c : tie.After-slice-known2 Inv-loop μ-loop) →
+    let at = c .before .before in
+    let a = at .before .before .before .before .before .args in
+    (Passes (at .before .before .before .sieve-of .result) (slotAt (at .loop .slots) (at .loop .i * 4)) → ⊥)
+    → Walked (removes (a .which)) (a .slots .now) (at .loop .i + 1) (at .loop .slots) (at .loop .taken)
+down c n =
+    let at = c .before .before in
+    let sieve = at .before .before .before in
+    let s = sieve .before .before in
+    let l = at .loop .slots in
+    let which = s .args .which in
+    walked-past (removes which) (s .args .slots .now) (at .loop .i) (at .loop .taken) l (s .pre) (omega arith) (at .loop .inv)
+    (turned-down which (sieve .sieve-of .result) l (at .loop .i) (omega (arith, same at)) (λ k. omega (arith, c .slice-known2 .given k)) (sieve .sieve-of .ensures) n)
+
+-- a slot that passes is emptied where the removal takes it, and counted
+turn : (c : tie.In-loop Inv-loop μ-loop) {slots : List ℕ} {n : ℕ} →
+    let at = c .before in
+    let a = at .before .before .before .before .before .args in
     let p = removes (a .which) in
-    let i = at .loop .i in
-    let read : slotOf (at .loop .slots) i ≡ slotOf l i = ap (λ (w : List ℕ). slotOf w i) (at .loop .inv .1) ∙ replace-read (emptiedBy p) l i in
-    let one : c .before .before .remove-at .result ≡ tick (p (slotOf l i)) = c .before .before .remove-at .ensures .1 ∙ ap (λ (x : Slot). tick (p x)) read in
-    omega (arith, one, at .loop .inv .2, count-step noSlot (slotsOf l) i p (omega (arith, slots-length l)))
+    slots ≡ onSlot (emptiedBy p) (at .loop .i) (at .loop .slots) → n ≡ tick (p (slotOf (at .loop .slots) (at .loop .i)))
+    → Walked p (a .slots .now) (at .loop .i + 1) slots (at .loop .taken + n)
+turn c e t =
+    let at = c .before in
+    let a = at .before .before .before .before .before .args in
+    walked-turn (removes (a .which)) (a .slots .now) (at .loop .i) (at .loop .taken) (at .loop .slots) (omega arith) (at .loop .inv) e (omega (arith, t))
 
 add-taken : tie.Need-add-taken Inv-loop μ-loop
 add-taken c =
-    let a = c .before .before .before .before .before .before .before .args in
+    let r = c .before .before .remove-at .ensures in
+    let inside = c .before .before .before .before .before .before .before .before .before .before in
+    let a = inside .before .before .before .before .before .before .args in
     let l = a .slots .now in
-    omega (arith, told c, count-rest (removes (a .which)) (slotsOf l), slots-length l)
+    omega (arith, turn inside (r .0) (r .1) .2, count-rest (removes (a .which)) (slotsOf l), slots-length l)
 
 add-i : tie.Need-add-i Inv-loop μ-loop
 add-i c = omega arith
@@ -67,21 +126,21 @@ loop-less c = omega arith
 
 loop-again : tie.Need-loop-again Inv-loop μ-loop
 loop-again c =
-    let at = c .before .before .before .before .before in
-    let a = at .before .before .args in
-    let f = emptiedBy (removes (a .which)) in
-    let i = at .loop .i in (
-      omega arith,
-      c .before .before .remove-at .ensures .0 ∙ ap (onSlot f i) (at .loop .inv .1) ∙ replace-turn f (a .slots .now) i (omega arith),
-      omega (arith, told c),
-    )
+    ⊎-elim
+    (λ w. rw (w .9, w .10) (turn (c .before .before) (w .6 .ensures .0) (w .6 .ensures .1)))
+    (λ w.
+    ⊎-elim
+    (λ v. rw (v .5, v .6) (down (c .before) (λ q. omega (arith, q .1, v .4 .left))))
+    (λ v. rw (v .1, v .2) (down (c .before) (λ q. omega (arith, q .0, v .0 .left))))
+    w)
+    (c .if1 .came)
 
 same-length : tie.Need-same-length Inv-loop μ-loop
 same-length c = same (c .before)
 
 returns : tie.Need-returns Inv-loop μ-loop
 returns c =
-    let a = c .before .before .before .args in
+    let a = c .before .before .before .before .before .before .args in
     let l = a .slots .now in
     let p = removes (a .which) in (
       c .before .loop .inv .1 ∙ replace-end (emptiedBy p) l _ (omega arith),
@@ -94,7 +153,20 @@ remove-spec =
     (tie.spec
     Inv-loop
     μ-loop
+    sieve-of-requires
+    skip-requires
     loop-holds
+    mul-k
+    mul-if1
+    slice-read-if1
+    add-code
+    mul-code
+    slice-read-code
+    add-if2
+    mul-if2
+    slice-read-if2
+    mul-if2-2
+    element-copy-out-if2
     remove-at-requires
     add-taken
     add-i
