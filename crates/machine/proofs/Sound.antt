@@ -133,9 +133,10 @@ entry-sound key locked word h a =
     let code : ℕ = word % 2 ^ 4 in
     let start : inRange (pageStart code (keyAddress key)) ≡ true = range-start code (keyAddress key) ∙ a in
     rw (entry-live key locked word h, h, entry-owner key locked word, start)
-    (and-both _ _ (eq-eqb _ _ (start-start code (keyAddress key))) (lt-ltb (tick locked + 2) 4 (flags locked)))
+    (and-both _ _ (eq-eqb _ _ (start-start code (keyAddress key))) (lt-ltb _ 4 (flags locked)))
   where
-    flags : (b : Bool) → tick b + 2 < 4
+    -- with the used bit or without
+    flags : (b : Bool) → entryOf key b word .flags < 4
     flags true = omega arith
     flags false = omega arith
 

@@ -175,9 +175,9 @@ pub fn remove(slots: &mut [u64], which: Removal) -> u64
     let mut i = skip(slots, f.owner, f.spread);
     while i < n {
         let k = i * 4;
-        if f.owner ^ slots[k] <= f.spread {
-            let code = (slots[k + 2] % 16) as usize;
-            if f.page ^ slots[k + 1] <= f.reach[code] {
+        let code = (slots[k + 2] % 16) as usize;
+        if f.page ^ slots[k + 1] <= f.reach[code] {
+            if f.owner ^ slots[k] <= f.spread {
                 taken += remove_at(slots, i, which);
             }
         }

@@ -50,12 +50,6 @@ same c =
 mul-k : tie.Need-mul-k Inv-loop μ-loop
 mul-k c = omega arith
 
-mul-if1 : tie.Need-mul-if1 Inv-loop μ-loop
-mul-if1 c = omega arith
-
-slice-read-if1 : tie.Need-slice-read-if1 Inv-loop μ-loop
-slice-read-if1 c = omega (arith, same (c .before .before))
-
 add-code : tie.Need-add-code Inv-loop μ-loop
 add-code c = omega arith
 
@@ -63,22 +57,28 @@ mul-code : tie.Need-mul-code Inv-loop μ-loop
 mul-code c = omega arith
 
 slice-read-code : tie.Need-slice-read-code Inv-loop μ-loop
-slice-read-code c = omega (arith, same (c .before .before .before .before))
+slice-read-code c = omega (arith, same (c .before .before))
 
-add-if2 : tie.Need-add-if2 Inv-loop μ-loop
-add-if2 c = omega arith
+add-if1 : tie.Need-add-if1 Inv-loop μ-loop
+add-if1 c = omega arith
+
+mul-if1 : tie.Need-mul-if1 Inv-loop μ-loop
+mul-if1 c = omega arith
+
+slice-read-if1 : tie.Need-slice-read-if1 Inv-loop μ-loop
+slice-read-if1 c = omega (arith, same (c .before .before .before))
+
+mul-if1-2 : tie.Need-mul-if1-2 Inv-loop μ-loop
+mul-if1-2 c = omega arith
+
+element-copy-out-if1 : tie.Need-element-copy-out-if1 Inv-loop μ-loop
+element-copy-out-if1 c = omega arith
 
 mul-if2 : tie.Need-mul-if2 Inv-loop μ-loop
 mul-if2 c = omega arith
 
 slice-read-if2 : tie.Need-slice-read-if2 Inv-loop μ-loop
-slice-read-if2 c = omega (arith, same (c .before .before .before .before .before))
-
-mul-if2-2 : tie.Need-mul-if2-2 Inv-loop μ-loop
-mul-if2-2 c = omega arith
-
-element-copy-out-if2 : tie.Need-element-copy-out-if2 Inv-loop μ-loop
-element-copy-out-if2 c = omega arith
+slice-read-if2 c = omega (arith, same (c .before .before .before .before .before .before))
 
 remove-at-requires : tie.Need-remove-at-requires Inv-loop μ-loop
 remove-at-requires c κs = omega (arith, same (c .before .before .before .before .before .before .before .before))
@@ -127,11 +127,11 @@ loop-less c = omega arith
 loop-again : tie.Need-loop-again Inv-loop μ-loop
 loop-again c =
     ⊎-elim
-    (λ w. rw (w .9, w .10) (turn (c .before .before) (w .6 .ensures .0) (w .6 .ensures .1)))
+    (λ w. rw (w .7, w .8) (turn (c .before .before .before .before) (w .4 .ensures .0) (w .4 .ensures .1)))
     (λ w.
     ⊎-elim
-    (λ v. rw (v .5, v .6) (down (c .before) (λ q. omega (arith, q .1, v .4 .left))))
-    (λ v. rw (v .1, v .2) (down (c .before) (λ q. omega (arith, q .0, v .0 .left))))
+    (λ v. rw (v .3, v .4) (down (c .before .before .before) (λ q. omega (arith, q .0, v .2 .left))))
+    (λ v. rw (v .1, v .2) (down (c .before .before .before) (λ q. omega (arith, q .1, v .0 .left))))
     w)
     (c .if1 .came)
 
@@ -157,16 +157,16 @@ remove-spec =
     skip-requires
     loop-holds
     mul-k
-    mul-if1
-    slice-read-if1
     add-code
     mul-code
     slice-read-code
-    add-if2
+    add-if1
+    mul-if1
+    slice-read-if1
+    mul-if1-2
+    element-copy-out-if1
     mul-if2
     slice-read-if2
-    mul-if2-2
-    element-copy-out-if2
     remove-at-requires
     add-taken
     add-i
