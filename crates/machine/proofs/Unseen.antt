@@ -6,7 +6,7 @@ use mathlib.Core.List.{List}
 use lib.ListN.{getD}
 use Rattle.laws.specs.Tests.{tick}
 use Rattle.machine.specs.Slots.{noSlot, pageMatch, isUsed, setUsed}
-use Rattle.machine.specs.Insertion.{entryOf}
+use Rattle.machine.specs.Insertion.{entryOf, wants, choice}
 use Rattle.machine.specs.State.{State, sideOf, withSide}
 use Rattle.machine.specs.Questions.{kindSide}
 use Rattle.machine.specs.Access.{judge, settleJudged}
@@ -27,7 +27,7 @@ new-used true = refl
 new-used false = refl
 
 pub unseen : Unseen
-unfolding pageMatch entryOf
+unfolding pageMatch entryOf choice wants
 unseen = record {
   slots = (refl, refl);
   missed = λ u a. (refl, refl);
@@ -36,6 +36,7 @@ unseen = record {
   marked = λ u a i.
       let s : List Slot = sideOf u (kindSide (a .kind)) in
       judged-slots (withSide u (kindSide (a .kind)) (setUsed i s)) a (judge (u .registers) a (getD s i noSlot .word));
+  lowest = λ cand s i e. rw e;
   new = λ key locked word. new-used locked;
   within = λ x address h. rw h;
   outside = λ x address h. rw h;

@@ -1,12 +1,15 @@
--- What demand 3 does not see, because no answer shows it at once or the ledger has no such thing: used bits, the slot counts, and where in a page an address lies.
+-- What demand 3 does not see, because no answer shows it at once or the ledger has no such thing: used bits, the slot counts, which empty slot is taken, and
+-- where in a page an address lies.
 -- Assumes nothing.
 use Prim.Native.Nat.{ℕ}
 use mathlib.Core.Path.{_≡_}
 use mathlib.Core.Bool.{Bool, true, false}
+use mathlib.Core.List.{List}
+use Rattle.laws.specs.Tests.{first}
 use Rattle.laws.specs.declared.Found.the-variants.{At, Nothing}
 use Rattle.machine.specs.Pages.{pageOffset}
 use Rattle.machine.specs.Slots.{sizeCode, holds, pageMatch, isUsed, setUsed}
-use Rattle.machine.specs.Insertion.{entryOf}
+use Rattle.machine.specs.Insertion.{isEmpty, entryOf, choice}
 use Rattle.machine.specs.State.{counts, State, sideOf, withSide}
 use Rattle.machine.specs.Questions.{kindSide}
 use Rattle.machine.specs.Access.{settleFound, settle}
@@ -17,6 +20,7 @@ use Rattle.machine.specs.declared.Trap.{Trap}
 use Rattle.machine.specs.declared.Tag.{Tag}
 use Rattle.machine.specs.declared.Translation.{Translation}
 use Rattle.machine.specs.declared.Prepared.the-variants as prepared
+use Rattle.machine.specs.declared.Choice.the-variants.{Empty}
 use Rattle.machine.specs.declared.PageMatch.the-variants.{Within, Outside}
 
 -- two states with the same slots
@@ -34,6 +38,8 @@ pub record Unseen : Type 0 where
   pub marked : (u : State) (a : Access) (i : ℕ) →
       let side : ℕ = kindSide (a .kind) in
       SameSlots (settleFound u a (At i) .state) (withSide u side (setUsed i (sideOf u side)))
+  -- "It then takes the lowest empty slot"
+  pub lowest : (cand : Slot → Bool) (s : List Slot) (i : ℕ) → first isEmpty s ≡ At i → choice cand s ≡ Empty i
   -- "The new entry is marked."
   pub new : (key : Key) (locked : Bool) (word : ℕ) → isUsed (entryOf key locked word) ≡ true
   -- the match of an address against a page
