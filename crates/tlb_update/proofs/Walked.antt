@@ -4,7 +4,10 @@ use mathlib.Core.Path.{_≡_, ap, subst, _∙_}
 use mathlib.Core.Bool.{Bool, false}
 use mathlib.Core.List.{List}
 use native.Mathlib.Omega.{arith}
+use lib.Dec.{eqb}
 use lib.ListN.{length, drop}
+use borrow.Author.Tests.{eqb-true, eqb-false}
+use Rattle.laws.proofs.Bools.{by-test}
 use Rattle.laws.specs.Tests.{tick, count}
 use Rattle.laws.proofs.Walks.{count-step}
 use Rattle.machine.specs.declared.Slot.{Slot}
@@ -40,8 +43,18 @@ module _ (p : Slot → Bool) (l : List ℕ) where
   walked-past i taken slots z h w n =
       walked-turn i taken slots h w (rw n (same-slot slots i (omega (arith, h, walked-length i taken slots z w)))) (rw n (omega arith))
 
-  -- slots that the test does not take, all at once
-  pub walked-on : (i : ℕ) → length l % 4 ≡ 0 → i ≤ length l / 4 → ((j : ℕ) → j < i → p (slotOf l j) ≡ false) → Walked i l 0
-  walked-on zero z h n = (omega arith, replace-start (emptiedBy p) l z, omega arith)
-  walked-on (suc i) z h n =
-      subst (λ (k : ℕ). Walked k l 0) (omega arith) (walked-past i 0 l z (omega arith) (walked-on i z (omega arith) (λ j b. n j (omega (arith, b)))) (n i (omega arith)))
+  -- the slots up to r, none of which the test takes
+  pub walked-on : (r i taken : ℕ) (slots : List ℕ) → length l % 4 ≡ 0 → i ≤ r → r ≤ length l / 4 → ((j : ℕ) → i ≤ j → j < r → p (slotOf slots j) ≡ false)
+      → Walked i slots taken → Walked r slots taken
+  walked-on zero i taken slots z a b n w = subst (λ (k : ℕ). Walked k slots taken) (omega arith) w
+  walked-on (suc r) i taken slots z a b n w =
+      by-test (eqb i (suc r))
+      (λ e. subst (λ (k : ℕ). Walked k slots taken) (eqb-true i (suc r) e) w)
+      (λ e.
+      let u : i ≤ r = omega (arith, eqb-false i (suc r) e) in
+      subst (λ (k : ℕ). Walked k slots taken) (omega arith)
+      (walked-past r taken slots z (omega arith) (walked-on r i taken slots z u (omega arith) (λ j c d. n j c (omega (arith, d))) w) (n r u (omega arith))))
+
+  -- before the first turn
+  pub walked-none : length l % 4 ≡ 0 → Walked 0 l 0
+  walked-none z = (omega arith, replace-start (emptiedBy p) l z, omega arith)

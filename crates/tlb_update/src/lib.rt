@@ -7,7 +7,7 @@ ghost use lib.ListN.{length};
 ghost use Rattle.laws.specs.Tests.{tick, count, first};
 ghost use Rattle.machine.specs.Slots.{slotsOf, wordsOf, slotOf, withSlot, onSlot, isLive, partitionOf, isLocked, answersTo};
 ghost use Rattle.machine.specs.Insertion.{overlaps, emptiedBy, removed, removes, entryOf, candidate, wants, choice, stored, displacedBy, inserted, placed, hasSlot};
-ghost use Rattle.tlb_update.specs.Sieves.{sieveNear, sieveOwners, Sifts, Others};
+ghost use Rattle.tlb_update.specs.Sieves.{spansFor, passes, Sifts, NonePass};
 use laws::Found;
 use machine::Choice;
 use machine::Key;
@@ -65,37 +65,12 @@ pub fn takes(which: Removal, x: Slot) -> bool
     }
 }
 
-// What every slot that a removal takes has: an owner whose xor with this one is at most the spread, and a page start whose xor with this one is
-// at most the reach of its size code. It turns down most slots at once, and the others are asked in full.
-struct Sieve {
-    owner: u64,
-    spread: u64,
-    page: u64,
-    reach: [u64; 16],
-}
-
-// One owner's pages that start near an address, or near a page of the size.
-fn sieve_near(owner: u64, page: u64, size: u64) -> Sieve
-    ensures { λ r. ⌜ r ≡ sieveNear owner page size ⌝ }
-{
-    Sieve {
-        owner: owner,
-        spread: 0,
-        page: page,
-        reach: tlb::spans(size),
-    }
-}
-
-// Whatever page the owners have.
-fn sieve_owners(owner: u64, spread: u64) -> Sieve
-    ensures { λ r. ⌜ r ≡ sieveOwners owner spread ⌝ }
-{
-    Sieve {
-        owner: owner,
-        spread: spread,
-        page: 0,
-        reach: [u64::MAX; 16],
-    }
+// What every slot that a removal takes has. It turns down most slots at once, and the others are asked in full.
+enum Sieve {
+    // a page start whose xor with this one is at most the larger of the two sizes
+    Pages { page: u64, size: u64 },
+    // an owner whose xor with this one is at most the spread
+    Owners { owner: u64, spread: u64 },
 }
 
 // The sieve of a removal. An address is a page of one byte.
@@ -103,18 +78,39 @@ fn sieve_of(which: Removal) -> Sieve
     ensures { λ r. ⌜ Sifts which r ⌝ }
 {
     match which {
-        Removal::Page(key) => sieve_near(tlb::key_owner(key), tlb::key_address(key), 1),
-        Removal::Context { partition, context } => {
-            let owner = tlb::owner_word(partition, false, context);
-            sieve_owners(owner, 0)
-        }
-        Removal::Unlocked { partition } => sieve_owners(partition << 14, 0x3FFF),
-        Removal::Everything => sieve_owners(0, u64::MAX),
-        Removal::Overlapping(new) => sieve_near(
-            new.owner,
-            new.page,
-            pages::page_size(new.word % 16),
-        ),
+        Removal::Page(key) => Sieve::Pages {
+            page: tlb::key_address(key),
+            size: 1,
+        },
+        Removal::Context { partition, context } => Sieve::Owners {
+            owner: tlb::owner_word(partition, false, context),
+            spread: 0,
+        },
+        Removal::Unlocked { partition } => Sieve::Owners {
+            owner: partition << 14,
+            spread: 0x3FFF,
+        },
+        Removal::Everything => Sieve::Owners {
+            owner: 0,
+            spread: u64::MAX,
+        },
+        Removal::Overlapping(new) => Sieve::Pages {
+            page: new.page,
+            size: pages::page_size(new.word % 16),
+        },
+    }
+}
+
+// The larger of the sieve's size and each page size, by size code.
+fn spans_of(sieve: Sieve) -> [u64; 16]
+    ensures { λ r. ⌜ r ≡ spansFor sieve ⌝ }
+{
+    match sieve {
+        Sieve::Pages { page: _, size } => tlb::spans(size),
+        Sieve::Owners {
+            owner: _,
+            spread: _,
+        } => [0; 16],
     }
 }
 
@@ -138,24 +134,39 @@ fn remove_at(slots: &mut [u64], i: usize, which: Removal) -> u64
     0
 }
 
-// A number of slots, from the first on, whose owners the sieve turns down. Most removals are of an owner with few entries: four slots a turn.
-fn skip(slots: &[u64], owner: u64, spread: u64) -> usize
-    ensures { λ r. ⌜ Others owner spread (now (slots .entry)) r ⌝ }
+// Whether slot i passes the sieve; the spans are the sieve's.
+fn passes(slots: &[u64], i: usize, sieve: Sieve, span: &[u64; 16]) -> bool
+    requires { ⌜ (i * 4 + 4 ≤ length (now slots)) × (now span ≡ spansFor sieve) ⌝ }
+    ensures { λ r. ⌜ r ≡ passes sieve (slotOf (now (slots .entry)) i) ⌝ }
+{
+    let k = i * 4;
+    match sieve {
+        Sieve::Pages { page, size: _ } => {
+            let code = (slots[k + 2] % 16) as usize;
+            page ^ slots[k + 1] <= span[code]
+        }
+        Sieve::Owners { owner, spread } => owner ^ slots[k] <= spread,
+    }
+}
+
+// A slot, from the one given on, up to which none passes. Most slots pass no sieve: four a turn.
+fn next(slots: &[u64], from: usize, sieve: Sieve, span: &[u64; 16]) -> usize
+    requires { ⌜ (from * 4 ≤ length (now slots)) × (now span ≡ spansFor sieve) ⌝ }
+    ensures { λ r. ⌜ NonePass sieve (now (slots .entry)) from r ⌝ }
 {
     let n = slots.len() / 4;
-    let mut i = 0;
+    let mut i = from;
     while i + 3 < n {
-        let k = i * 4;
-        if owner ^ slots[k] <= spread {
+        if passes(slots, i, sieve, span) {
             return i;
         }
-        if owner ^ slots[k + 4] <= spread {
+        if passes(slots, i + 1, sieve, span) {
             return i;
         }
-        if owner ^ slots[k + 8] <= spread {
+        if passes(slots, i + 2, sieve, span) {
             return i;
         }
-        if owner ^ slots[k + 12] <= spread {
+        if passes(slots, i + 3, sieve, span) {
             return i;
         }
         i += 4;
@@ -169,19 +180,14 @@ pub fn remove(slots: &mut [u64], which: Removal) -> u64
     ensures words { λ r. ⌜ now (slots .exit) ≡ wordsOf (removed (removes which) (slotsOf (now (slots .entry)))) ⌝ }
     ensures count { λ r. ⌜ r ≡ count (removes which) (slotsOf (now (slots .entry))) ⌝ }
 {
-    let f = sieve_of(which);
+    let sieve = sieve_of(which);
+    let span = spans_of(sieve);
     let n = slots.len() / 4;
     let mut taken = 0;
-    let mut i = skip(slots, f.owner, f.spread);
+    let mut i = next(slots, 0, sieve, &span);
     while i < n {
-        let k = i * 4;
-        let code = (slots[k + 2] % 16) as usize;
-        if f.page ^ slots[k + 1] <= f.reach[code] {
-            if f.owner ^ slots[k] <= f.spread {
-                taken += remove_at(slots, i, which);
-            }
-        }
-        i += 1;
+        taken += remove_at(slots, i, which);
+        i = next(slots, i + 1, sieve, &span);
     }
     taken
 }
