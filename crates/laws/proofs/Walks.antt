@@ -1,17 +1,17 @@
 -- What a loop over a list knows: a search, a test or a count of the elements from i on, and a rewriting of those before i.
 -- Over any type and any test. Assumes nothing.
-use mathlib.Core.Path.{_≡_, refl, sym, ap, _∙_}
+use mathlib.Core.Path.{_≡_, refl, ap, _∙_}
 use mathlib.Core.Bool.{Bool, true, false, not, _&&_, _||_}
 use mathlib.Core.List.{List, [], _∷_, map}
 use Prim.Native.Nat.{ℕ, zero, suc, _+_, _≤_, _<_}
 use native.Mathlib.Omega.{arith}
 use native.Mathlib.Numerals.{add-one}
-use lib.ListN.{length, getD, set, take, drop, drop-of-length-le}
-use lib.Seq.{drop-cons, set-getD}
+use lib.ListN.{length, getD, set, drop, drop-of-length-le}
+use lib.Seq.{drop-cons}
 use Rattle.laws.specs.Tests.{pick, tick, count, anyOf, allOf, pairwise, firstFrom, first}
 use Rattle.laws.specs.declared.Found.{Found}
 use Rattle.laws.specs.declared.Found.the-variants.{At, Nothing}
-use Rattle.laws.proofs.Bools.{by-test, clash, and-no}
+use Rattle.laws.proofs.Bools.{by-test, and-no, or-comm}
 
 module _ {A : Type 0} (d : A) (s : List A) (i : ℕ) where
   -- ---- the first that passes
@@ -120,6 +120,15 @@ module _ {A : Type 0} (d : A) (p : A → Bool) where
       go h =
           let q : h .0 ≡ j = omega (arith, h .1) in
           (omega (arith, h .2), rw q at (h .3))
+
+  pub any-at : (s : List A) (i : ℕ) → i < length s → p (getD s i d) ≡ true → anyOf p s ≡ true
+  unfolding anyOf
+  any-at [] i h t = absurd (omega arith)
+  any-at (x ∷ s) zero h t = rw t
+  any-at (x ∷ s) (suc i) h t = rw (any-at s i (omega arith) t) (or-comm (p x) true)
+
+  pub found-any : (s : List A) (j : ℕ) → first p s ≡ At j → anyOf p s ≡ true
+  found-any s j e = let f = found-at s j e in any-at s j (f .0) (f .1)
 
   pub found-none : (s : List A) → first p s ≡ Nothing → anyOf p s ≡ false
   found-none s e = rw e at (first-says s)

@@ -1,23 +1,22 @@
 -- Commands on a side: the unit's and the ledger's agree. Assumes nothing.
-use Prim.Native.Nat.{ℕ, zero, suc, _+_, _*_, _-_, _/_, _%_, _^_, _≤_, _<_}
+use Prim.Native.Nat.{ℕ, zero, suc, _-_, _/_, _%_, _^_, _≤_, _<_}
 use mathlib.Core.Path.{_≡_, refl, sym, ap, _∙_}
-use mathlib.Core.Bool.{Bool, true, false, not, _&&_}
-use mathlib.Core.List.{List, []}
-use mathlib.Core.Logic.{_↔_}
+use mathlib.Core.Bool.{Bool, true, false, not}
+use mathlib.Core.List.{List}
 use native.Mathlib.Omega.{arith}
 use lib.Dec.{eqb, ltb, leb}
 use lib.ListN.{length, getD}
 use borrow.Author.Tests.{eqb-true, eq-eqb, ltb-true}
 use mathlib.Core.Option.{Option, none, some}
-use Rattle.laws.specs.Tests.{tick, count, anyOf, allOf, without, find, first}
+use Rattle.laws.specs.Tests.{tick, count, anyOf, allOf, find, first}
 use Rattle.laws.specs.declared.Found.{Found}
 use Rattle.laws.specs.declared.Found.the-variants.{At, Nothing}
 use Rattle.laws.proofs.Bools.{by-test, clash, and-left, and-right, and-both, or-other}
 use Rattle.laws.proofs.Finds.{stands-count, FindSays, find-says, find-only, find-zero}
-use Rattle.machine.specs.Slots.{noSlot, isLive, answersTo, partitionOf, isReal, contextOf}
+use Rattle.machine.specs.Slots.{noSlot, isLive, answersTo, isReal}
 use Rattle.machine.specs.Pages.{inRange}
 use Rattle.machine.specs.Words.{wordSound}
-use Rattle.machine.specs.Insertion.{overlaps, removed, removes, candidate, placed, inserted, hasSlot}
+use Rattle.machine.specs.Insertion.{removes, candidate, placed, inserted, hasSlot}
 use Rattle.machine.specs.Sound.{slotSound}
 use Rattle.machine.specs.Registers.{partition, selected}
 use Rattle.machine.specs.Questions.{kindSide, flagReal, keyOf, asked, verdict}
@@ -26,7 +25,7 @@ use Rattle.machine.specs.declared.Access.{Access}
 use Rattle.machine.specs.State.{Counts, slotCount, State, sideOf, withSide}
 use Rattle.machine.specs.Step.{placedAnswer, demap, act}
 use Rattle.machine.specs.Stream.{Bytes, answerBytes}
-use Rattle.machine.specs.Ledger.{Entry, Ledger, Name, nameIn, isNamed, line, lacksSlot, overlap, unlocked, Written, inserts, demaps, withEntries, isAt, inContext, inPartition, contextPicked, translationOn, Asked, askedSide, earlySteps, foundBy, misses, lookedUp, accesses, pointers, does}
+use Rattle.machine.specs.Ledger.{Entry, Ledger, Name, nameIn, isNamed, line, lacksSlot, overlap, unlocked, Written, inserts, demaps, withEntries, isAt, inContext, contextPicked, translationOn, Asked, askedSide, earlySteps, foundBy, misses, lookedUp, accesses, pointers, does}
 use Rattle.machine.specs.Demand3.{entryIn, InsertionSays, AccessSays}
 use Rattle.machine.specs.declared.Slot.{Slot}
 use Rattle.machine.specs.declared.Removal.{Removal}

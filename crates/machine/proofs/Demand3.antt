@@ -1,14 +1,13 @@
 -- Demand 3 is met, for any number of slots on either side. Assumes nothing.
-use Prim.Native.Nat.{ℕ, _*_, _-_, _%_, _<_}
+use Prim.Native.Nat.{ℕ, _-_, _%_, _<_}
 use mathlib.Core.Path.{_≡_, refl, sym, ap, ap₂, subst, _∙_}
 use mathlib.Core.Bool.{Bool, true, false}
 use mathlib.Core.List.{List, [], _∷_, _++_}
-use lib.ListN.{length, take, drop}
 use native.Mathlib.Omega.{arith}
-use lib.Dec.{eqb, ltb, leb}
+use lib.Dec.{eqb}
 use borrow.Author.Tests.{eq-eqb, ne-eqb, eqb-true, eqb-false, leb-true, ltb-true}
 use Rattle.laws.specs.Tests.{count, allOf}
-use Rattle.laws.proofs.Bools.{by-test, clash, and-both, and-left, and-right}
+use Rattle.laws.proofs.Bools.{by-test, and-both, and-left, and-right}
 use Rattle.machine.specs.State.{Counts, slotCount, State, sideOf, stateOf, encode, reset, sideFits, sound, wordsSound}
 use Rattle.machine.specs.Pages.{inRange}
 use Rattle.machine.specs.Words.{wordSound}

@@ -1,6 +1,6 @@
 -- The starred examples of document 01, by computation. Assumes nothing.
-use mathlib.Core.Path.{_≡_, refl}
-use Rattle.machine.specs.Pages.{inRange, listed, pageShift}
+use mathlib.Core.Path.{refl}
+use Rattle.machine.specs.Pages.{inRange, pageShift}
 use Rattle.machine.specs.Words.{frame, physicalAt}
 use Rattle.machine.specs.Registers.{writable, allowed, resetStrands}
 use Rattle.machine.specs.Questions.{asked, ask, verdict}

@@ -14,8 +14,8 @@ use Rattle.laws.specs.Tests.{tick, count, anyOf, pairwise, first}
 use Rattle.laws.specs.declared.Found.{Found}
 use Rattle.laws.specs.declared.Found.the-variants.{At, Nothing}
 use Rattle.laws.proofs.Bools.{by-test, both-ways, clash, and-left, and-right, and-no, or-left, or-right, or-other, or-comm}
-use Rattle.laws.proofs.Counts.{count-set, count-map, count-same, count-none, count-at, count-one, none-count}
-use Rattle.laws.proofs.Walks.{found-at, found-none}
+use Rattle.laws.proofs.Counts.{count-set, count-map, count-same, count-none, count-one}
+use Rattle.laws.proofs.Walks.{any-at, found-at, found-none}
 use Rattle.machine.specs.Pages.{pageShift, pageStart}
 use Rattle.machine.specs.Slots.{noSlot, isLive, sizeCode, isUsed, keyOwner, keyAddress, holds, answersTo, withUsed, withoutUsed, setUsed, clearUsed}
 use Rattle.machine.specs.Insertion.{overlaps, emptiedBy, removed, isEmpty, wants, foundOr, choice, stored, displacedBy, inserted, placed, hasSlot}
@@ -139,9 +139,6 @@ isChosen (Unused i) = true
 isChosen (Cleared i) = true
 isChosen Full = false
 
-any-at : (p : Slot → Bool) (s : List Slot) (i : ℕ) → i < length s → p (getD s i noSlot) ≡ true → anyOf p s ≡ true
-any-at p s i h t = by-test (anyOf p s) (λ e. e) (λ e. absurd (omega (arith, none-count p s e, count-at p s i noSlot h t)))
-
 module _ (cand : Slot → Bool) (s : List Slot) where
   -- what is known of each choice
   abbrev pub Chosen : Choice → Type 0
@@ -180,9 +177,9 @@ module _ (cand : Slot → Bool) (s : List Slot) where
   chosen-any = go (choice cand s) choice-says
     where
       go : (c : Choice) → Chosen c → isChosen c ≡ (anyOf isEmpty s || anyOf cand s)
-      go (Empty i) h = rw (any-at isEmpty s i (h .0) (h .1))
-      go (Unused i) h = rw (h .0, any-at cand s i (h .1) (h .2))
-      go (Cleared i) h = rw (h .0, any-at cand s i (h .2) (h .3))
+      go (Empty i) h = rw (any-at noSlot isEmpty s i (h .0) (h .1))
+      go (Unused i) h = rw (h .0, any-at noSlot cand s i (h .1) (h .2))
+      go (Cleared i) h = rw (h .0, any-at noSlot cand s i (h .2) (h .3))
       go Full h = rw (h .0, h .1)
 
 -- ---- number 13
@@ -248,7 +245,7 @@ module _ (cand : Slot → Bool) (new : Slot) (s : List Slot) where
       freed e Full h = clash (removed-any-empty (overlaps new) s e) (h .0)
 
       apart : anyOf (overlaps new) s ≡ false → (c : Choice) → choice cand s ≡ c → Chosen cand s c → PlacedSays (displacedBy s c)
-      apart e (Empty i) f h = rw (any-at isEmpty s i (h .0) (h .1))
+      apart e (Empty i) f h = rw (any-at noSlot isEmpty s i (h .0) (h .1))
       apart e (Unused i) f h = record { full = h .0; apart = e; allowed = h .2; index = i; within = h .1; there = refl; chosen = inl (f, h .3) }
       apart e (Cleared i) f h = record { full = h .0; apart = e; allowed = h .3; index = i; within = h .2; there = refl; chosen = inr (f, h .1) }
       apart e Full f h = (h .0, h .1, e)

@@ -2,20 +2,20 @@
 -- Assumes nothing.
 use Prim.Native.Nat.{ℕ, _+_, _*_, _-_, _/_, _%_, _^_, _≤_, _<_}
 use mathlib.Core.Path.{_≡_, refl, ap, sym, _∙_}
-use mathlib.Core.Bool.{Bool, true, false, not, _&&_, _||_, and-comm, and-true, and-false}
+use mathlib.Core.Bool.{Bool, true, false, not, _&&_, _||_, and-comm, and-false}
 use mathlib.Core.List.{List, [], _∷_}
 use native.Mathlib.Omega.{arith}
 use native.Mathlib.Nat.{mod-mod, one-mul}
 use lib.Dec.{eqb, ltb, leb}
 use lib.Pow.{split}
-use lib.ListN.{length, getD}
-use borrow.Author.Tests.{eq-eqb, eqb-true, eqb-false, ne-eqb, lt-ltb, le-ltb, le-leb, lt-leb, ltb-true, ltb-false}
+use lib.ListN.{getD}
+use borrow.Author.Tests.{eq-eqb, eqb-true, eqb-false, ne-eqb, lt-ltb, le-ltb, lt-leb, ltb-true}
 use Rattle.laws.specs.Tests.{pick, tick, anyOf}
 use Rattle.laws.specs.declared.Found.the-variants.{Nothing}
 use Rattle.laws.proofs.Bools.{by-test, clash, and-left, and-right, or-left, or-right}
-use Rattle.machine.specs.Pages.{inRange, listed, pageShift, pageSize, pageOffset}
+use Rattle.machine.specs.Pages.{listed, pageShift, pageOffset}
 use Rattle.machine.specs.Words.{bits, wordSound, frame, physicalAt}
-use Rattle.machine.specs.Registers.{registerWords, withRegister, mode, translates, selected, allowed}
+use Rattle.machine.specs.Registers.{withRegister, mode, translates, selected, allowed}
 use Rattle.machine.specs.Registers as registers
 use Rattle.machine.specs.State.{Counts, State, withRegisters}
 use Rattle.machine.specs.Questions.{kindSide, keyOf}
@@ -26,7 +26,7 @@ use Rattle.machine.specs.declared.Tag.the-variants as effect
 use Rattle.machine.specs.declared.Prepared.{Prepared}
 use Rattle.machine.specs.declared.Prepared.the-variants as prepared
 use Rattle.machine.specs.Stream.{answerBytes}
-use Rattle.machine.specs.Ledger.{Entry, Ledger, writes, codeBytes, pageBytes, bit, addressGood, contextPicked, tagOf, line, Written, answers, Asked, usedAddress, translationOn, askedSide, faults, taggedTrap, firstFit, earlySteps, misses, hits}
+use Rattle.machine.specs.Ledger.{Entry, Ledger, writes, pageBytes, bit, contextPicked, tagOf, line, Written, answers, Asked, usedAddress, translationOn, askedSide, faults, taggedTrap, firstFit, earlySteps, misses, hits}
 use Rattle.machine.specs.declared.VirtualAddress.{VirtualAddress}
 use Rattle.machine.specs.declared.Translation.{Translation}
 use Rattle.machine.specs.declared.Answer.the-variants as answer
@@ -35,7 +35,7 @@ use Rattle.machine.specs.declared.Trap.the-variants as trap
 use Rattle.machine.proofs.Alike.{Alike}
 use Rattle.machine.proofs.Questions.{address-good, code-bytes, context-picked, alike-registers}
 use Rattle.machine.proofs.Bytes.{line-answer}
-use Rattle.machine.proofs.State.{register-written, sound-file, registers-written, allowed-any, strand-sound, kind-side}
+use Rattle.machine.proofs.State.{allowed-any, strand-sound, kind-side}
 
 ruleset conj = (and-left, and-right, eqb-true, ltb-true)
 

@@ -1,5 +1,5 @@
 -- Laws of rounding to a page. Assumes nothing.
-use Prim.Native.Nat.{ℕ, _*_, _-_, _/_, _^_, _≤_, _<_}
+use Prim.Native.Nat.{ℕ, _*_, _-_, _/_, _^_, _≤_}
 use mathlib.Core.Path.{_≡_, ap, sym, _∙_}
 use mathlib.Core.Bool.{Bool, true, false, not, cond}
 use native.Mathlib.Omega.{arith}

@@ -1,5 +1,5 @@
 -- Used bits, slot counts and page matches are as document 01 has them. Assumes nothing.
-use Prim.Native.Nat.{ℕ, _+_}
+use Prim.Native.Nat.{_+_}
 use mathlib.Core.Path.{_≡_, refl}
 use mathlib.Core.Bool.{Bool, true, false}
 use mathlib.Core.List.{List}
@@ -12,7 +12,6 @@ use Rattle.machine.specs.Questions.{kindSide}
 use Rattle.machine.specs.Access.{judge, settleJudged}
 use Rattle.machine.specs.Unseen.{SameSlots, Unseen}
 use Rattle.machine.specs.declared.Slot.{Slot}
-use Rattle.machine.specs.declared.Key.{Key}
 use Rattle.machine.specs.declared.Access.{Access}
 use Rattle.machine.specs.declared.Judged.{Judged}
 use Rattle.machine.specs.declared.Judged.the-variants as judged

@@ -1,16 +1,16 @@
 -- Document 01, "Access": prepare (the mask, steps 1 to 4), lookup (5), judge (6 to 8), settle (used bit and registers).
 -- Assumes nothing.
-use Prim.Native.Nat.{ℕ, _+_, _*_, _/_, _%_, _^_}
-use mathlib.Core.Bool.{Bool, true, false, not, _&&_, _||_}
-use mathlib.Core.List.{List, [], _∷_}
+use Prim.Native.Nat.{ℕ, _+_, _*_, _%_, _^_}
+use mathlib.Core.Bool.{not, _&&_, _||_}
+use mathlib.Core.List.{List}
 use lib.Dec.{eqb, ltb}
 use lib.ListN.{getD}
-use Rattle.laws.specs.Tests.{pick, tick}
+use Rattle.laws.specs.Tests.{pick}
 use Rattle.laws.specs.declared.Found.{Found}
 use Rattle.laws.specs.declared.Found.the-variants.{At, Nothing}
 use Rattle.machine.specs.Pages.{inRange, pageOffset, bypassed}
 use Rattle.machine.specs.Words.{bits, physicalAt}
-use Rattle.machine.specs.Slots.{noSlot, sizeCode, search, setUsed}
+use Rattle.machine.specs.Slots.{noSlot, search, setUsed}
 use Rattle.machine.specs.Registers.{register, withRegister, partition, mode, translates, addressMask, selected, tagNumber, tagOf, faultAddressNumber, faultNumber}
 use Rattle.machine.specs.Questions.{kindSide, keyOf}
 use Rattle.machine.specs.State.{State, sideOf, withSide, withRegisters}
@@ -19,7 +19,6 @@ use Rattle.machine.specs.declared.Key.{Key}
 use Rattle.machine.specs.declared.VirtualAddress.{VirtualAddress}
 use Rattle.machine.specs.declared.Trap.{Trap}
 use Rattle.machine.specs.declared.Trap.the-variants as trap
-use Rattle.machine.specs.declared.Trapped.{Trapped}
 use Rattle.machine.specs.declared.Translation.{Translation}
 use Rattle.machine.specs.declared.Access.{Access}
 use Rattle.machine.specs.declared.Tag.{Tag}

@@ -1,8 +1,8 @@
 -- Demand 3: what is claimed of every list of runs from reset.
 -- Assumes nothing.
-use Prim.Native.Nat.{ℕ, zero, suc, _+_, _*_, _≤_, _<_}
+use Prim.Native.Nat.{ℕ, _+_, _*_, _≤_, _<_}
 use mathlib.Core.Path.{_≡_}
-use mathlib.Core.Bool.{Bool, true, false, not, _&&_}
+use mathlib.Core.Bool.{true, false, not, _&&_}
 use mathlib.Core.List.{List, [], _∷_, _++_}
 use mathlib.Core.Logic.{_↔_}
 use lib.ListN.{length, getD, take, drop}
@@ -13,7 +13,7 @@ use Rattle.machine.specs.Slots.{noSlot, isLive, partitionOf, isReal, con
 use Rattle.machine.specs.Registers.{register}
 use Rattle.machine.specs.State.{Counts, slotCount, State, sideOf, stateOf, encode, reset, wordsSound}
 use Rattle.machine.specs.Step.{step}
-use Rattle.machine.specs.Stream.{Bytes, Taken, Outcome, decodeAt, takenOf, answerBytes, runOf}
+use Rattle.machine.specs.Stream.{Bytes, decodeAt, takenOf, answerBytes, runOf}
 use Rattle.machine.specs.Ledger.{Entry, Ledger, start, overlap, unlocked, line, Written, nameIn, isNamed, newEntry, firstNo, questions, Asked, usedAddress, askedSide, earlySteps, foundBy, misses, hits, enters}
 use Rattle.machine.specs.declared.Slot.{Slot}
 use Rattle.machine.specs.declared.Command.{Command}

@@ -3,7 +3,7 @@
 use Prim.Native.Nat.{ℕ}
 use mathlib.Core.Path.{_≡_}
 use mathlib.Core.Bool.{true, false}
-use mathlib.Core.List.{List, [], _∷_}
+use mathlib.Core.List.{[], _∷_}
 use lib.ListN.{replicate}
 use Rattle.machine.specs.Pages.{inRange, pageOffset}
 use Rattle.machine.specs.Words.{bits, physicalAt}
@@ -12,9 +12,7 @@ use Rattle.machine.specs.State.{counts, State, encode, reset}
 use Rattle.machine.specs.Questions.{refusalNumber, verdict}
 use Rattle.machine.specs.Access.{prepare, judge, trapNumber, trapFault}
 use Rattle.machine.specs.declared.Access.{Access}
-use Rattle.machine.specs.declared.Prepared.{Prepared}
 use Rattle.machine.specs.declared.Prepared.the-variants as prepared
-use Rattle.machine.specs.declared.Judged.{Judged}
 use Rattle.machine.specs.declared.Judged.the-variants as judged
 use Rattle.machine.specs.Step.{tsbPointer}
 use Rattle.machine.specs.Stream.{Bytes, Outcome, runOf}

@@ -1,13 +1,13 @@
 -- Document 01, "Questions before a command acts": 5 to 13, as an ordered list for each command.
 -- Assumes nothing.
-use Prim.Native.Nat.{ℕ, _%_, _/_, _^_}
+use Prim.Native.Nat.{ℕ, _%_, _/_}
 use mathlib.Core.Bool.{Bool, true, false, not, cond, _&&_, _||_}
 use mathlib.Core.List.{List, [], _∷_}
 use lib.Dec.{eqb, ltb}
 use Rattle.laws.specs.Tests.{pick}
 use Rattle.machine.specs.Pages.{inRange}
 use Rattle.machine.specs.Words.{wordInsertable}
-use Rattle.machine.specs.Registers.{register, partition, mode, tagAccess, tagAddress, tagContext, known, writable, allowed}
+use Rattle.machine.specs.Registers.{partition, mode, tagAccess, tagAddress, tagContext, known, writable, allowed}
 use Rattle.machine.specs.Insertion.{entryOf, candidate, hasSlot}
 use Rattle.machine.specs.State.{State, sideOf}
 use Rattle.machine.specs.declared.Slot.{Slot}

@@ -1,6 +1,5 @@
 -- Document 01, "Sound means": what it asks of the slots of one side.
 -- Assumes nothing.
-use Prim.Native.Nat.{ℕ, _%_, _/_, _^_}
 use mathlib.Core.List.{List}
 use mathlib.Core.Bool.{Bool, not, cond, _&&_, _||_}
 use lib.Dec.{eqb, ltb}

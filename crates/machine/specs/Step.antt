@@ -2,8 +2,7 @@
 -- Assumes nothing.
 use Prim.Native.Nat.{ℕ, _+_, _*_, _/_, _%_, _^_}
 use mathlib.Core.List.{List}
-use lib.Dec.{eqb}
-use Rattle.laws.specs.Tests.{pick, count}
+use Rattle.laws.specs.Tests.{count}
 use Rattle.machine.specs.Pages.{pageSize}
 use Rattle.machine.specs.Words.{bits}
 use Rattle.machine.specs.Slots.{partitionOf, isReal, contextOf}
@@ -20,7 +19,6 @@ use Rattle.machine.specs.declared.Placed.the-variants as placement
 use Rattle.machine.specs.declared.Displaced.{Displaced}
 use Rattle.machine.specs.declared.Command.{Command}
 use Rattle.machine.specs.declared.Command.the-variants as command
-use Rattle.machine.specs.declared.Refusal.{Refusal}
 use Rattle.machine.specs.declared.Refusal.the-variants as refusal
 use Rattle.machine.specs.declared.Verdict.{Verdict}
 use Rattle.machine.specs.declared.Verdict.the-variants.{Passed, Refused}

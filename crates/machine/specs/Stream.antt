@@ -1,7 +1,7 @@
 -- Document 01, "The stream": commands read from bytes, answers as bytes, and a run.
 -- Assumes nothing.
 use Prim.Native.Nat.{ℕ, zero, suc, _+_, _*_, _-_, _/_, _%_, _^_}
-use mathlib.Core.Bool.{Bool, cond}
+use mathlib.Core.Bool.{cond}
 use mathlib.Core.List.{List, [], _∷_, _++_}
 use lib.Dec.{eqb, ltb}
 use lib.ListN.{length, getD}
@@ -9,7 +9,7 @@ use lib.Seq.{sets}
 use Rattle.laws.specs.Tests.{tick}
 use Rattle.machine.specs.State.{Counts, State, stateOf, encode, wordsSound}
 use Rattle.machine.specs.Questions.{refusalNumber}
-use Rattle.machine.specs.Access.{Stepped, trapNumber, trapFault}
+use Rattle.machine.specs.Access.{trapNumber, trapFault}
 use Rattle.machine.specs.Step.{step}
 use Rattle.machine.specs.declared.Command.{Command}
 use Rattle.machine.specs.declared.Command.the-variants as command

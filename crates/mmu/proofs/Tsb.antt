@@ -1,6 +1,6 @@
 -- Sizes of a TSB: 512 * 2^N entries of 16 bytes, so a pointer into it fits a word.
 -- Assumes nothing.
-use Prim.Native.Nat.{ℕ, suc, _+_, _*_, _-_, _/_, _%_, _^_, _<_, _≤_}
+use Prim.Native.Nat.{ℕ, _+_, _*_, _-_, _/_, _%_, _^_, _<_, _≤_}
 use mathlib.Core.Path.{_≡_, sym, ap, _∙_}
 use native.Mathlib.Nat.{mod-lt, suc-mul, mul-le-mul-right}
 use native.Mathlib.Omega.{arith}

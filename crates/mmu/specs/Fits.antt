@@ -10,7 +10,6 @@ use Rattle.machine.specs.State.{counts, stateWords, stateOf, sound}
 use Rattle.machine.specs.Questions.{verdict}
 use Rattle.machine.specs.declared.Command.{Command}
 use Rattle.machine.specs.declared.Verdict.the-variants.{Passed}
-use Rattle.machine.specs.declared.Slot.{Slot}
 use Rattle.machine.specs.declared.Placed.{Placed}
 use Rattle.machine.specs.declared.Placed.the-variants.{Done, Displaced, Refused}
 

@@ -266,13 +266,16 @@ pub fn choose(slots: &[u64]) -> Choice
     Choice::Cleared(slot)
 }
 
-// Whether a slot is to be had for the new entry (number 13). Nothing changes.
+// Whether a slot is to be had for the new entry (number 13). Nothing changes. Most sides have a candidate in a low slot, so that is asked first.
 pub fn has_slot(slots: &[u64], new: Slot) -> bool
     ensures { λ r. ⌜ r ≡ hasSlot candidate new (slotsOf (now (slots .entry))) ⌝ }
 {
-    let Choice::Full = choose(slots) else {
+    if let Found::At(_) = lowest(slots, Wanted::Candidate) {
         return true;
-    };
+    }
+    if let Found::At(_) = lowest(slots, Wanted::Empty) {
+        return true;
+    }
     !tlb::overlaps_none(slots, new, 0)
 }
 

@@ -1,7 +1,6 @@
 -- `mmu::act_insert` meets its contract.
-use mathlib.Core.Path.{sym, _∙_}
-use Rattle.machine.specs.State.{counts, stateOf, sideOf}
-use Rattle.machine.specs.Questions.{insertion}
+use mathlib.Core.Path.{_∙_}
+use Rattle.machine.specs.State.{counts, stateOf}
 use Rattle.machine.specs.Step.{act}
 use Rattle.machine.proofs.State.{sound-side}
 use Rattle.mmu.proofs.Passes.{passed-within, place-fits}

@@ -1,6 +1,5 @@
 -- `mmu::placed_to_answer` meets its contract.
 use mathlib.Core.Path.{sym, ap, _∙_}
-use mathlib.Core.Path.{_≡_}
 use Rattle.machine.specs.Step.{placedAnswer}
 use Rattle.machine.specs.declared.Answer.the-variants.{Displaced}
 use borrow.Author.Needs.{needs}

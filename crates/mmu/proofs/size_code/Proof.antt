@@ -1,5 +1,4 @@
 -- `mmu::size_code` meets its contract.
-use Prim.Native.Nat.{ℕ}
 use mathlib.Core.Path.{_≡_}
 use native.Mathlib.Omega.{arith}
 use Rattle.mmu.proofs.size_code.Statement.{statement}

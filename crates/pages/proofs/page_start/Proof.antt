@@ -1,5 +1,4 @@
 -- `pages::page_start` meets its contract: what is shifted back does not leave the word.
-use Prim.Native.Nat.{_≤_, _*_, _/_, _^_}
 use native.Mathlib.Omega.{arith}
 use native.Mathlib.Nat.{mod-eq-of-lt}
 use lib.Pow.{split}

@@ -1,6 +1,5 @@
 -- `questions::ask_invalidate` meets its contract, question by question.
-use mathlib.Core.Path.{sym, _∙_}
-use borrow.Author.Tests.{lt-ltb, le-ltb, not-true, not-false}
+use borrow.Author.Tests.{lt-ltb, le-ltb}
 use Rattle.machine.specs.Questions.{asked, ask, verdict}
 use Rattle.questions.proofs.ask_invalidate.Statement.{statement}
 use Rattle.questions.proofs.ask_invalidate.Tie as tie

@@ -1,5 +1,5 @@
 -- `questions::is_nucleus_fetch` meets its contract.
-use borrow.Author.Tests.{lt-ltb, le-ltb, eq-eqb, ne-eqb}
+use borrow.Author.Tests.{eq-eqb, ne-eqb}
 use borrow.Author.Needs.{needs}
 use Rattle.questions.proofs.is_nucleus_fetch.Statement.{statement}
 use Rattle.questions.proofs.is_nucleus_fetch.Tie as tie

@@ -1,5 +1,5 @@
 -- `tlb::clear_used` meets its contract. The invariant: the first i slots have no used bit, the others are as they were.
-use Prim.Native.Nat.{_≤_, _-_, _+_, _*_}
+use Prim.Native.Nat.{_≤_, _-_}
 use mathlib.Core.Path.{_≡_, refl, ap, _∙_}
 use native.Mathlib.Omega.{arith}
 use lib.ListN.{length}

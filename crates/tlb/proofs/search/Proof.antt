@@ -1,8 +1,7 @@
 -- `tlb::search` meets its contract: to answer to a key is to answer to its owner and its address.
-use mathlib.Core.Path.{_≡_, refl, ap, _∙_}
+use mathlib.Core.Path.{_∙_}
 use borrow.Author.Needs.{needs}
-use Rattle.laws.specs.Tests.{first}
-use Rattle.machine.specs.Slots.{slotsOf, keyOwner, keyAddress, answersTo}
+use Rattle.machine.specs.Slots.{answersTo}
 use Rattle.tlb.specs.Tables.{answersAt}
 use Rattle.tlb.proofs.search.Statement.{statement}
 use Rattle.tlb.proofs.search.Tie as tie

@@ -1,5 +1,4 @@
 -- `tlb::set_used` meets its contract.
-use Prim.Native.Nat.{_*_, _+_}
 use mathlib.Core.Path.{refl}
 use Rattle.machine.specs.Slots.{withUsed}
 use Rattle.machine.proofs.Slots.{flags-on}
