@@ -106,18 +106,6 @@ module _ {A : Type 0} where
       (λ e. absurd (omega (arith, ap tick e)))
       (λ e. rw e (count-any p l (omega (arith, ap tick e))))
 
-  pub any-count : (p : A → Bool) (l : List A) → anyOf p l ≡ true → 1 ≤ count p l
-  any-count p l h = go (count p l) refl
-    where
-      go : (n : ℕ) → count p l ≡ n → 1 ≤ n
-      go zero e = clash h (count-any p l e)
-      go (suc n) e = omega arith
-
-  pub all-count : (p : A → Bool) (l : List A) → allOf p l ≡ true → count (λ x. not (p x)) l ≡ 0
-  unfolding count allOf
-  all-count p [] h = refl
-  all-count p (x ∷ l) h = rw (and-left (p x) _ h) (omega (arith, all-count p l (and-right (p x) _ h)))
-
   pub count-allOf : (p : A → Bool) (l : List A) → count (λ x. not (p x)) l ≡ 0 → allOf p l ≡ true
   unfolding count allOf
   count-allOf p [] h = refl

@@ -51,12 +51,6 @@ module _ {A : Type 0} where
       more e none h = rw e (omega arith)
       more e (some x) h = (h .0, stands-more x y l (h .1))
 
-  pub find-none : (p : A → Bool) (l : List A) → find p l ≡ none → count p l ≡ 0
-  find-none p l e = rw e at (find-says p l)
-
-  pub find-some : (p : A → Bool) (l : List A) (x : A) → find p l ≡ some x → (p x ≡ true) × Stands x l
-  find-some p l x e = rw e at (find-says p l)
-
   pub find-zero : (p : A → Bool) (l : List A) → count p l ≡ 0 → find p l ≡ none
   find-zero p l h = go (find p l) (find-says p l)
     where

@@ -66,19 +66,6 @@ name-back {v} {w} h i j k =
     rw (mod-eq-of-lt h, mod-eq-of-lt i, back v j, back w k)
 
 -- ---- answers told apart
-pub kind-of : (kind a b c v w : ℕ) → getD (answerOf kind a b c v w) 0 0 ≡ kind
-kind-of kind a b c v w = refl
-
 pub line-kind : (kind a b c v w : ℕ) → getD (line kind a b c v w) 0 0 ≡ kind
 unfolding line
 line-kind kind a b c v w = refl
-
--- equal lines have equal fields
-pub line-fields : (v w v' w' : ℕ) {kind a b c kind' a' b' c' : ℕ} → line kind a b c v w ≡ line kind' a' b' c' v' w' →
-    (kind ≡ kind') × (a ≡ a') × (b ≡ b') × (c ≡ c')
-unfolding line
-line-fields v w v' w' h = ((cc), (cc), (cc), (cc))
-
-pub answer-fields : (a b c v w a' b' c' v' w' : ℕ) {kind kind' : ℕ} → answerOf kind a b c v w ≡ answerOf kind' a' b' c' v' w' →
-    (kind ≡ kind') × (a % 256 ≡ a' % 256) × (b % 256 ≡ b' % 256) × (c % 256 ≡ c' % 256)
-answer-fields a b c v w a' b' c' v' w' h = ((cc), (cc), (cc), (cc))

@@ -314,12 +314,6 @@ module _ {n : Counts} {u : State} {l : Ledger} (a : Alike n u l) where
   pub passed-alike : (c : Command) → firstNo (questions l c) ≡ 0 → verdictNumber (verdict u c) ≡ pick (slotLeft u c) 0 13
   passed-alike c h = first-refusal c ∙ rw h
 
-  -- every command but an insertion: there the slot is `refl`
-  pub number-alike : (c : Command) → slotLeft u c ≡ true → verdictNumber (verdict u c) ≡ firstNo (questions l c)
-  number-alike c h = by-test (eqb (firstNo (questions l c)) 0)
-      (λ e. let z : firstNo (questions l c) ≡ 0 = eqb-true _ 0 e in passed-alike c z ∙ rw (h, z))
-      (λ e. refused-alike c (eqb-false _ 0 e))
-
   -- ---- commands that touch no side
   -- one write on both
   pub alike-registers : (strand number value : ℕ) → strand < 4 → number < 32 → allowed number value ≡ true

@@ -18,7 +18,7 @@ use Rattle.laws.specs.declared.Found.the-variants.{At, Nothing}
 use Rattle.laws.proofs.Bools.{by-test, clash, both-ways, and-both, and-left, and-right, and-no}
 use Rattle.laws.proofs.Counts.{count-append, count-without, count-none, count-all, count-rest, count-at, count-one, count-le, none-count, count-allOf}
 use Rattle.laws.proofs.Walks.{found-at, found-none}
-use Rattle.laws.proofs.Finds.{count-index, find-zero, find-only, once-same, removed-once, count-where, first-where, zero-none, without-none}
+use Rattle.laws.proofs.Finds.{count-index, find-zero, find-only, removed-once, count-where, first-where, zero-none, without-none}
 use Rattle.machine.specs.Pages.{listed, pageShift, pageSize, pageStart}
 use Rattle.machine.specs.Words.{wordSound}
 use Rattle.machine.specs.Slots.{noSlot, isLive, sizeCode, partitionOf, isReal, contextOf, isLocked, isUsed, holds, answersTo, setUsed}
@@ -383,9 +383,6 @@ module _ {n : ℕ} {s : List Slot} {m : List Entry} (h : SideAlike n s m) where
     where
       both : (x y : Slot) → (slotSound x && hit (isNamed d) x) ≡ true → (slotSound y && hit (isNamed d) y) ≡ true → overlaps x y ≡ true
       both x y a b = named-overlap d x y (search conj) (search conj) (search conj) (search conj) (search conj) (search conj)
-
-  pub named-only : (d : Name) (e x : Entry) → Live e m → Live x m → isNamed d e ≡ true → isNamed d x ≡ true → e ≡ x
-  named-only d e x a b f g = once-same (isNamed d) m e x (named-once d) f a g b
 
   -- ---- insertion
   -- the list is full where the side is

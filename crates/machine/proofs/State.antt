@@ -64,9 +64,6 @@ register-written file strand number value s r l h k =
     (λ e. rw e (getD-set-other file (cell strand number) (cell s r) value 0 (λ q.
     clash (and-both _ _ (eq-eqb s strand (omega arith)) (eq-eqb r number (omega arith))) e)))
 
-pub length-written : (file : List ℕ) (strand number value : ℕ) → length (withRegister file strand number value) ≡ length file
-length-written file strand number value = length-set file (cell strand number) value
-
 pub sound-file : (file : List ℕ) → registersSound file ≡ true → length file ≡ registerWords
 unfolding registersSound
 sound-file file h = search conj

@@ -16,7 +16,7 @@ use Rattle.machine.specs.Registers.{registerWords, cell, register, withRegister
 use Rattle.machine.specs.State.{Counts, State, slotCount, sideOf, withSide, withRegisters, stateWords, stateOf, encode, sideFits, sound, wordsSound}
 use Rattle.machine.specs.declared.Slot.{Slot}
 use Rattle.machine.proofs.Slots.{slots-length, words-back}
-use Rattle.machine.proofs.State.{encode-length, state-encode, encode-state}
+use Rattle.machine.proofs.State.{state-encode, encode-state}
 
 -- ---- a state with as many registers and slots as it should have
 abbrev pub Sized : Counts → State → Type 0
@@ -46,10 +46,7 @@ module _ (n : Counts) (u : State) (z : Sized n u) where
       (λ e. rw e (z .0, rw e at l, z .2))
       (λ e. rw e (z .0, z .1, rw e at l))
 
-  -- its words are as many as they should be, and hold it
-  pub sized-length : length (encode u) ≡ stateWords n
-  sized-length = encode-length u ∙ omega arith
-
+  -- its words hold it
   pub sized-back : stateOf n (encode u) ≡ u
   sized-back = state-encode n u (z .0) (z .1)
 
