@@ -173,11 +173,31 @@ fn share(one: bool, other: bool, weight: u64) -> u64
     0
 }
 
+// A word that earns no access a fault type: nfo, e and p are 0 and cp is 1. Most are such.
+fn is_faultless(word: u64) -> bool
+    ensures { λ r. ⌜ r ≡ (not (eqb (bits 62 1 word) 1) && (not (eqb (bits 11 1 word) 1)
+        && (not (eqb (bits 8 1 word) 1) && eqb (bits 10 1 word) 1))) ⌝ }
+{
+    if bit_of(word, 62) == 1 {
+        return false;
+    }
+    if bit_of(word, 11) == 1 {
+        return false;
+    }
+    if bit_of(word, 8) == 1 {
+        return false;
+    }
+    bit_of(word, 10) == 1
+}
+
 // The sum of the fault types that a word earns an access.
 fn fault_of(mode: u64, kind: u8, word: u64) -> u64
     ensures fault { λ r. ⌜ r ≡ faultType mode kind word ⌝ }
     ensures small { λ r. ⌜ r < 256 ⌝ }
 {
+    if is_faultless(word) {
+        return 0;
+    }
     let privileged = share(bit_of(word, 8) == 1, mode == 0, 0x01);
     let side_effect = share(kind == 4, bit_of(word, 11) == 1, 0x02);
     let uncached = share(kind == 3, bit_of(word, 10) == 0, 0x04);
@@ -208,9 +228,8 @@ fn judge_word(state: &[u64], a: Access, word: u64) -> Judged
     if is_write_denied(a.kind, word) {
         return Judged::Faulted(Trap::DataProtection);
     }
-    let offset = pages::page_offset(word % 16, a.used.0);
     Judged::Translated(Translation {
-        address: tte::physical_address(word, offset),
+        address: tte::physical_address(word, a.used.0),
         attributes: bit_of(word, 10) + 2 * bit_of(word, 11) + 4 * bit_of(word, 12),
     })
 }

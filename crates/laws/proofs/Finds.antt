@@ -70,13 +70,6 @@ module _ {A : Type 0} where
       (λ t. absurd (omega (arith, ap tick t, stands-count p l x e s)))
       (λ t. rw t (find-only p l x e s (omega arith)))
 
-  -- it is passed by one alone
-  pub once-same : (p : A → Bool) (l : List A) (x y : A) → count p l ≤ 1 → p x ≡ true → Stands x l → p y ≡ true → Stands y l → x ≡ y
-  once-same p l x y one e g f h =
-      let a : find p l ≡ some x = find-only p l x e g one in
-      let b : find p l ≡ some y = find-only p l y f h one in
-      cc
-
   -- without it that one is gone
   pub removed-once : (p q : A → Bool) (l : List A) (x : A) → q x ≡ true → Stands x l → count q l ≤ 1
       → count p l ≡ tick (p x) + count (λ z. not (q z) && p z) l

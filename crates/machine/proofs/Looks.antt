@@ -5,7 +5,7 @@ use mathlib.Core.Path.{_≡_, refl, ap, sym, _∙_}
 use mathlib.Core.Bool.{Bool, true, false, not, _&&_, _||_, and-comm, and-false}
 use mathlib.Core.List.{List, [], _∷_}
 use native.Mathlib.Omega.{arith}
-use native.Mathlib.Nat.{mod-mod, one-mul}
+use native.Mathlib.Nat.{one-mul}
 use lib.Dec.{eqb, ltb, leb}
 use lib.Pow.{split}
 use lib.ListN.{getD}
@@ -13,7 +13,7 @@ use borrow.Author.Tests.{eq-eqb, eqb-true, eqb-false, ne-eqb, lt-ltb, le-ltb, lt
 use Rattle.laws.specs.Tests.{pick, tick, anyOf}
 use Rattle.laws.specs.declared.Found.the-variants.{Nothing}
 use Rattle.laws.proofs.Bools.{by-test, clash, and-left, and-right, or-left, or-right}
-use Rattle.machine.specs.Pages.{listed, pageShift, pageOffset}
+use Rattle.machine.specs.Pages.{listed, pageShift}
 use Rattle.machine.specs.Words.{bits, wordSound, frame, physicalAt}
 use Rattle.machine.specs.Registers.{withRegister, mode, translates, selected, allowed}
 use Rattle.machine.specs.Registers as registers
@@ -51,11 +51,11 @@ pub record StepAlike (n : Counts) (r : Stepped) (w : Written) : Type 0 where
 -- ---- the small agreements
 -- where a page of a sound word lies, and the offset in it
 pub physical-alike : (word used : ℕ) → wordSound word ≡ true → (let address : ℕ = word / 2 ^ 13 % 2 ^ 43 * 2 ^ 13 in
-    physicalAt word (pageOffset (word % 2 ^ 4) used) .0 ≡ address - address % pageBytes word + used % pageBytes word)
+    physicalAt word used .0 ≡ address - address % pageBytes word + used % pageBytes word)
 unfolding wordSound frame physicalAt
 physical-alike word used h =
     let l : listed (word % 2 ^ 4) ≡ true = search conj in
-    rw (code-bytes (word % 2 ^ 4) l, mod-mod) (omega (arith, split (word / 2 ^ 13 % 2 ^ 43 * 2 ^ 13) (pageShift (word % 2 ^ 4))))
+    rw (code-bytes (word % 2 ^ 4) l) (omega (arith, split (word / 2 ^ 13 % 2 ^ 43 * 2 ^ 13) (pageShift (word % 2 ^ 4))))
 
 -- the two texts of a tag
 pub tag-alike : (address context : ℕ) → address - address % 8192 + context ≡ registers.tagOf address context

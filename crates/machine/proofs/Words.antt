@@ -7,10 +7,10 @@ use native.Mathlib.Nat.{mod-mod, mod-lt}
 use lib.Pow.{pow-pos, split, high, mod-pow-add}
 use borrow.Author.Tests.{eqb-true, ltb-true}
 use Rattle.laws.proofs.Bools.{and-left, and-right}
-use Rattle.machine.specs.Pages.{pageShift, pageStart}
+use Rattle.machine.specs.Pages.{pageShift}
 use Rattle.machine.specs.Words.{bits, unpacked, packed, fields, wordSound, wordInsertable, frame, physicalAt}
 use Rattle.machine.specs.declared.Tte.{Tte}
-use Rattle.machine.proofs.Pages.{shift-small, start-start, coarser}
+use Rattle.machine.proofs.Pages.{shift-small, coarser}
 
 ruleset conjuncts = (and-left, and-right, eqb-true, ltb-true)
 
@@ -42,26 +42,17 @@ pub insertable-sound : (w : ℕ) → wordInsertable w ≡ true → wordSound w �
 unfolding wordInsertable
 insertable-sound w h = h
 
--- a word's frame is a page start of its size
-pub frame-start : (w : ℕ) → pageStart (w % 2 ^ 4) (frame w .0) ≡ frame w .0
-unfolding frame
-frame-start w = start-start (w % 2 ^ 4) (bits 13 43 w * 2 ^ 13)
-
--- no offset leaves the word's block of 2^40, whatever the word
-pub physical-block : (w offset : ℕ) → physicalAt w offset .0 / 2 ^ 40 ≡ bits 40 16 w
+-- no address in the page leaves the word's block of 2^40, whatever the word
+pub physical-block : (w address : ℕ) → physicalAt w address .0 / 2 ^ 40 ≡ bits 40 16 w
 unfolding frame physicalAt
-physical-block w offset =
+physical-block w address =
     let k : ℕ = pageShift (w % 2 ^ 4) in
     let a : ℕ = bits 13 43 w * 2 ^ 13 in
-    coarser _ a k 40 (omega (arith, shift-small (w % 2 ^ 4))) (high (a / 2 ^ k) k (mod-lt offset (pow-pos k))) ∙ omega arith
+    coarser _ a k 40 (omega (arith, shift-small (w % 2 ^ 4))) (high (a / 2 ^ k) k (mod-lt address (pow-pos k))) ∙ omega arith
 
 -- physical addresses are below 2^40
-pub physical-below : (w : ℕ) → wordSound w ≡ true → (offset : ℕ) → physicalAt w offset .0 < 2 ^ 40
+pub physical-below : (w : ℕ) → wordSound w ≡ true → (address : ℕ) → physicalAt w address .0 < 2 ^ 40
 unfolding wordSound
-physical-below w h offset =
+physical-below w h address =
     let zero-above : bits 40 16 w ≡ 0 = search conjuncts in
-    omega (arith, physical-block w offset)
-
-pub frame-below : (w : ℕ) → wordSound w ≡ true → frame w .0 < 2 ^ 40
-unfolding physicalAt
-frame-below w h = omega (arith, physical-below w h 0)
+    omega (arith, physical-block w address)

@@ -8,7 +8,7 @@ use lib.ListN.{getD}
 use Rattle.laws.specs.Tests.{pick}
 use Rattle.laws.specs.declared.Found.{Found}
 use Rattle.laws.specs.declared.Found.the-variants.{At, Nothing}
-use Rattle.machine.specs.Pages.{inRange, pageOffset, bypassed}
+use Rattle.machine.specs.Pages.{inRange, bypassed}
 use Rattle.machine.specs.Words.{bits, physicalAt}
 use Rattle.machine.specs.Slots.{noSlot, search, setUsed}
 use Rattle.machine.specs.Registers.{register, withRegister, partition, mode, translates, addressMask, selected, tagNumber, tagOf, faultAddressNumber, faultNumber}
@@ -93,7 +93,7 @@ judge file a word =
     -- 7. "Kind 2 or 3 and w is 0: 0x6C."
     (pick ((eqb (a .kind) 2 || eqb (a .kind) 3) && eqb (bits 6 1 word) 0) (judged.Faulted trap.DataProtection)
     -- 8. "word address rounded down to the page, plus the offset in it"
-    (judged.Translated (record { address = physicalAt word (pageOffset (word % 2 ^ 4) (a .used .0)); attributes = attributesOf word })))
+    (judged.Translated (record { address = physicalAt word (a .used .0); attributes = attributesOf word })))
 
 -- ---- settle
 -- the document's number and fault type of a trap

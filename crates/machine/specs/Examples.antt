@@ -5,7 +5,7 @@ use mathlib.Core.Path.{_≡_}
 use mathlib.Core.Bool.{true, false}
 use mathlib.Core.List.{[], _∷_}
 use lib.ListN.{replicate}
-use Rattle.machine.specs.Pages.{inRange, pageOffset}
+use Rattle.machine.specs.Pages.{inRange}
 use Rattle.machine.specs.Words.{bits, physicalAt}
 use Rattle.machine.specs.Registers.{mode, resetRegisters}
 use Rattle.machine.specs.State.{counts, State, encode, reset}
@@ -37,7 +37,7 @@ pub record Starred : Type 0 where
   pub accepted : (u : State) → verdict u (command.Write 0 1 8191) ≡ Passed
   pub refused : (u : State) → (r : Refusal) × (verdict u (command.Write 0 1 8192) ≡ Refused r) × (refusalNumber r ≡ 10)
   -- "Code 3, word address 0x12402000, access 0x80401234: 0x12401234."
-  pub large : physicalAt 0x8000_0000_1240_2003 (pageOffset 3 0x8040_1234) .0 ≡ 0x1240_1234
+  pub large : physicalAt 0x8000_0000_1240_2003 0x8040_1234 .0 ≡ 0x1240_1234
   -- "User store, p 1, w 0: 0x30 type 0x01, not 0x6C."; bit 8 is p, and registers that are all zero are a user's
   pub privileged : (mode [] 0 ≡ 0) × (bits 8 1 0x8000_0000_0000_0100 ≡ 1) × (bits 6 1 0x8000_0000_0000_0100 ≡ 0)
       × ((t : Trap) × (judge [] (store 0) 0x8000_0000_0000_0100 ≡ judged.Faulted t) × (trapNumber t ≡ 0x30) × (trapFault t ≡ 0x01))

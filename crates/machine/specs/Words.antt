@@ -65,6 +65,6 @@ wordInsertable word = wordSound word
 unfoldable pub frame : ℕ → PhysicalAddress
 frame word = record { 0 = pageStart (word % 2 ^ 4) (bits 13 43 word * 2 ^ 13) }
 
--- ".. plus the offset in it"
+-- ".. plus the offset in it", of an address in the page
 unfoldable pub physicalAt : ℕ → ℕ → PhysicalAddress
-physicalAt word offset = record { 0 = frame word .0 + pageOffset (word % 2 ^ 4) offset }
+physicalAt word address = record { 0 = frame word .0 + pageOffset (word % 2 ^ 4) address }

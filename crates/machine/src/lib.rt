@@ -210,9 +210,9 @@ pub enum Judged {
 
 // A trap with the address used and the tag access register after it.
 pub struct Trapped {
-    pub trap: Trap,
     pub address: VirtualAddress,
     pub tag: u64,
+    pub trap: Trap,
 }
 
 // A physical address, and cp + 2 * e + 4 * ie of its page.
@@ -224,8 +224,8 @@ pub struct Translation {
 // A displaced entry as an answer names it: partition, real bit, page address plus context, and the word.
 pub struct Displaced {
     pub partition: u64,
-    pub real: bool,
     pub place: u64,
+    pub real: bool,
     pub word: u64,
 }
 

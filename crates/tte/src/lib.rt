@@ -69,11 +69,10 @@ pub fn page_frame(word: u64) -> PhysicalAddress
     PhysicalAddress(pages::page_start(word % 16, (word >> 13) % 0x800_0000_0000 << 13))
 }
 
-// The physical address of an offset in a word's page.
-pub fn physical_address(word: u64, offset: u64) -> PhysicalAddress
-    ensures { λ r. ⌜ r ≡ physicalAt word offset ⌝ }
+// The physical address of an address in a word's page.
+pub fn physical_address(word: u64, address: u64) -> PhysicalAddress
+    ensures { λ r. ⌜ r ≡ physicalAt word address ⌝ }
 {
     let start = page_frame(word);
-    let address = start.0 + pages::page_offset(word % 16, offset);
-    PhysicalAddress(address)
+    PhysicalAddress(start.0 + pages::page_offset(word % 16, address))
 }

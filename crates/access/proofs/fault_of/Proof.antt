@@ -1,9 +1,41 @@
 -- `access::fault_of` meets its contract.
+use Prim.Native.Nat.{ℕ}
+use mathlib.Core.Path.{_≡_, sym, _∙_}
+use mathlib.Core.Bool.{Bool, true, not, _&&_}
 use native.Mathlib.Omega.{arith}
+use lib.Dec.{eqb}
 use borrow.Author.Needs.{needs}
+use borrow.Author.Tests.{eqb-true, not-true}
+use Rattle.laws.proofs.Bools.{and-left, and-right, and-no}
+use Rattle.machine.specs.Words.{bits}
 use Rattle.machine.specs.Access.{faultType}
 use Rattle.access.proofs.fault_of.Statement.{statement}
 use Rattle.access.proofs.fault_of.Tie as tie
+
+is-faultless-requires : tie.Need-is-faultless-requires
+is-faultless-requires c κs = search needs
+
+abbrev set : ℕ → ℕ → Bool
+set word k = eqb (bits k 1 word) 1
+
+-- a word that is found faultless earns nothing
+none : (mode kind word : ℕ) → (not (set word 62) && (not (set word 11) && (not (set word 8) && set word 10))) ≡ true → faultType mode kind word ≡ 0
+unfolding faultType
+none mode kind word h =
+    let i : (not (set word 11) && (not (set word 8) && set word 10)) ≡ true = and-right (not (set word 62)) _ h in
+    let j : (not (set word 8) && set word 10) ≡ true = and-right (not (set word 11)) _ i in
+    let cp : bits 10 1 word ≡ 1 = eqb-true _ _ (and-right (not (set word 8)) (set word 10) j) in
+    rw (
+      not-true (set word 8) (and-left (not (set word 8)) (set word 10) j),
+      not-true (set word 11) (and-left (not (set word 11)) _ i),
+      not-true (set word 62) (and-left (not (set word 62)) _ h),
+      cp,
+      and-no (eqb kind 3),
+      and-no (eqb kind 4),
+    )
+
+returns : tie.Need-returns
+returns c = (sym (none _ _ _ (sym (c .before .is-faultless .ensures) ∙ c .if1 .taken)), omega arith)
 
 bit-of-requires : tie.Need-bit-of-requires
 bit-of-requires c κs = search needs
@@ -38,9 +70,9 @@ add-result-2 c = search needs
 add-result-3 : tie.Need-add-result-3
 add-result-3 c = search needs
 
-returns : tie.Need-returns
+returns-2 : tie.Need-returns-2
 unfolding faultType
-returns c =
+returns-2 c =
     let three = c .before .before in
     let two = three .before .before in
     let one = two .before .before in (
@@ -61,6 +93,8 @@ pub fault-of-spec : {M : Type 1} → statement M
 fault-of-spec =
     tie.close
     (tie.spec
+    is-faultless-requires
+    returns
     bit-of-requires
     share-requires
     bit-of-requires-2
@@ -72,4 +106,4 @@ fault-of-spec =
     add-result
     add-result-2
     add-result-3
-    returns)
+    returns-2)

@@ -41,9 +41,6 @@ returns-2 c =
       omega arith,
     )
 
-page-offset-requires : tie.Need-page-offset-requires
-page-offset-requires c κs = search needs
-
 physical-address-requires : tie.Need-physical-address-requires
 physical-address-requires c κs = search needs
 
@@ -53,27 +50,26 @@ bit-of-requires c κs = search needs
 bit-of-requires-2 : tie.Need-bit-of-requires-2
 bit-of-requires-2 c κs = search needs
 
-mul-t13 : tie.Need-mul-t13
-mul-t13 c = search needs
+mul-t12 : tie.Need-mul-t12
+mul-t12 c = search needs
 
-add-t14 : tie.Need-add-t14
-add-t14 c = search needs
+add-t13 : tie.Need-add-t13
+add-t13 c = search needs
 
 bit-of-requires-3 : tie.Need-bit-of-requires-3
 bit-of-requires-3 c κs = search needs
 
-mul-t16 : tie.Need-mul-t16
-mul-t16 c = search needs
+mul-t15 : tie.Need-mul-t15
+mul-t15 c = search needs
 
-add-t17 : tie.Need-add-t17
-add-t17 c = search needs
+add-t16 : tie.Need-add-t16
+add-t16 c = search needs
 
 returns-3 : tie.Need-returns-3
 unfolding judge
 returns-3 c =
     let bit = c .before .before in
-    let page = bit .before .before in
-    let two = page .before in
+    let two = bit .before .before in
     let one = two .before .before in
     let fault = one .before in (
       rw (
@@ -83,7 +79,6 @@ returns-3 c =
         ← (two .before .is-write-denied .ensures),
         two .if2 .left,
         bit .before .physical-address .ensures,
-        page .page-offset .ensures,
         bit .bit-of .ensures,
         c .before .bit-of2 .ensures,
         c .bit-of3 .ensures,
@@ -101,13 +96,12 @@ judge-word-spec =
     returns
     is-write-denied-requires
     returns-2
-    page-offset-requires
     physical-address-requires
     bit-of-requires
     bit-of-requires-2
-    mul-t13
-    add-t14
+    mul-t12
+    add-t13
     bit-of-requires-3
-    mul-t16
-    add-t17
+    mul-t15
+    add-t16
     returns-3)

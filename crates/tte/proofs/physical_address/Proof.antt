@@ -12,11 +12,11 @@ page-frame-requires c κs = search needs
 page-offset-requires : tie.Need-page-offset-requires
 page-offset-requires c κs = search needs
 
-add-address : tie.Need-add-address
+add-t6 : tie.Need-add-t6
 unfolding physicalAt
-add-address c =
+add-t6 c =
     let s = c .before .before .before .args in
-    rw (c .before .before .page-frame .ensures, c .before .page-offset .ensures) (omega (arith, physical-block (s .word) (s .offset)))
+    rw (c .before .before .page-frame .ensures, c .before .page-offset .ensures) (omega (arith, physical-block (s .word) (s .address)))
 
 returns : tie.Need-returns
 unfolding physicalAt
@@ -24,4 +24,4 @@ returns c = rw (c .before .before .page-frame .ensures, c .before .page-offset .
 
 pub physical-address-spec : {M : Type 1} → statement M
 physical-address-spec =
-    tie.close (tie.spec page-frame-requires page-offset-requires add-address returns)
+    tie.close (tie.spec page-frame-requires page-offset-requires add-t6 returns)
