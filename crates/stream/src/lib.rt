@@ -21,6 +21,14 @@ pub fn run(state: &mut [u64], input: &[u8], output: &mut [u8]) -> Run
     let mut at = 0;
     let mut answered = 0;
     while at < input.len() {
+        // The room is asked for before the decoding: the decoder's arms then lead straight into the unit's.
+        if output.len() / 24 <= answered {
+            return Run {
+                answered,
+                taken: at,
+                stop: wire::stop_without_room(input, at),
+            };
+        }
         let decoded = wire::command_at(input, at);
         let Decoded::Known(command, width) = decoded else {
             return Run {
@@ -29,13 +37,6 @@ pub fn run(state: &mut [u64], input: &[u8], output: &mut [u8]) -> Run
                 stop: wire::stop_number(decoded),
             };
         };
-        if output.len() / 24 <= answered {
-            return Run {
-                answered,
-                taken: at,
-                stop: 4,
-            };
-        }
         let answer = mmu::execute(state, command);
         wire::put_answer(output, answered * 24, answer);
         at += width;

@@ -1,5 +1,5 @@
 -- The command at a position: read at the front of the rest, and told by its width. Assumes nothing.
-use Prim.Native.Nat.{ℕ, _+_, _-_, _*_, _≤_}
+use Prim.Native.Nat.{ℕ, _+_, _*_, _≤_}
 use mathlib.Core.Bool.{cond}
 use mathlib.Core.Path.{_≡_, refl, sym, _∙_}
 use native.Mathlib.Nat.{add-zero, add-assoc, sub-zero}
@@ -12,7 +12,7 @@ use Rattle.laws.proofs.Bools.{by-test}
 use Rattle.machine.specs.Stream.{Bytes, byte, four, eight, decodeAt}
 use Rattle.machine.specs.declared.Decoded.{Decoded}
 use Rattle.machine.specs.declared.Decoded.the-variants.{Known, Stop}
-use Rattle.wire.specs.Wire.{widthOf, shortOf, valuedOf}
+use Rattle.wire.specs.Wire.{widthOf, commandOf}
 
 -- a command is read where it stands as at the front of the rest
 pub decode-rest : (s : Bytes) (at : ℕ) → decodeAt (drop at s) 0 ≡ decodeAt s at
@@ -36,8 +36,7 @@ reach e h = rw e at h
 abbrev shown : Bytes → ℕ → Decoded
 shown s width =
     cond (eqb width 0) (Stop 2)
-    (cond (ltb (length s) width) (Stop 3)
-    (Known (cond (ltb width 11) (shortOf s) (valuedOf s (eight s (width - 8)))) width))
+    (cond (ltb (length s) width) (Stop 3) (Known (commandOf s) width))
 
 -- .. is what is decoded there; and a command has two bytes at least
 abbrev pub Told : Bytes → ℕ → Type 0
@@ -59,3 +58,7 @@ decode-shown s width told =
     (λ e. rw (eqb-true b 8 e) (refl, λ n. omega arith)) (λ n8. by-test (eqb b 9)
     (λ e. rw (eqb-true b 9 e) (refl, λ n. omega arith)) (λ n9.
     simp (n1, n2, n3, n4, n5, n6, n7, n8, n9) (refl, λ n. absurd (n refl))))))))))))
+
+-- .. and of a position, by the width that its byte tells
+pub decode-told : (s : Bytes) (at width : ℕ) → width ≡ widthOf (byte s at) → decodeAt s at ≡ shown (drop at s) width
+decode-told s at width told = sym (decode-rest s at) ∙ decode-shown (drop at s) width (told ∙ rw (getD-drop, add-zero)) .0

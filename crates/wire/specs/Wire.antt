@@ -5,7 +5,7 @@ use Prim.Native.Nat.{ℕ, _+_, _*_, _%_, _^_}
 use mathlib.Core.Bool.{cond}
 use lib.Dec.{eqb}
 use Rattle.laws.specs.Tests.{tick}
-use Rattle.machine.specs.Stream.{Bytes, byte}
+use Rattle.machine.specs.Stream.{Bytes, byte, eight}
 use Rattle.machine.specs.Questions.{refusalNumber}
 use Rattle.machine.specs.Access.{trapNumber, trapFault}
 use Rattle.machine.specs.declared.Command.{Command}
@@ -32,18 +32,24 @@ shortOf s =
     (cond (eqb (byte s 0) 9) (command.Pointers (byte s 1) (byte s 2))
     (command.Invalidate (byte s 1)))))
 
--- a command that ends in a value of eight bytes
-abbrev pub valuedOf : Bytes → ℕ → Command
-valuedOf s value =
-    cond (eqb (byte s 0) 2) (command.Insert (byte s 1) (byte s 2) (byte s 3) value)
-    (cond (eqb (byte s 0) 3) (command.DemapPage (byte s 1) (byte s 2) (byte s 3) (byte s 4) value)
-    (cond (eqb (byte s 0) 7) (command.Access (byte s 1) (byte s 2) (byte s 3) (byte s 4) (record { 0 = value }))
-    (command.Write (byte s 1) (byte s 2) value)))
+-- a command that is known and whole, at the front of the bytes
+abbrev pub commandOf : Bytes → Command
+commandOf s =
+    cond (eqb (byte s 0) 1) (command.Write (byte s 1) (byte s 2) (eight s 3))
+    (cond (eqb (byte s 0) 2) (command.Insert (byte s 1) (byte s 2) (byte s 3) (eight s 4))
+    (cond (eqb (byte s 0) 3) (command.DemapPage (byte s 1) (byte s 2) (byte s 3) (byte s 4) (eight s 5))
+    (cond (eqb (byte s 0) 7) (command.Access (byte s 1) (byte s 2) (byte s 3) (byte s 4) (record { 0 = eight s 5 }))
+    (shortOf s))))
 
 -- the number of a decode answer that ends the run
 abbrev pub stopOf : Decoded → ℕ
 stopOf (Stop number) = number
 stopOf (Known command width) = 0
+
+-- the same where there is no room for an answer: number 4 for a command
+abbrev pub fullStopOf : Decoded → ℕ
+fullStopOf (Stop number) = number
+fullStopOf (Known command width) = 4
 
 -- ---- answers
 -- kind, a, b, c and four zeros, as one word

@@ -6,7 +6,7 @@ ghost use lib.Seq.{sets};
 ghost use Rattle.laws.specs.Tests.{tick};
 ghost use Rattle.machine.specs.Stream.{byte as byteOf, four, eight, decodeAt, bytes, answerBytes};
 ghost use Rattle.machine.specs.declared.Answer.the-variants.{Trap as TrapAnswer};
-ghost use Rattle.wire.specs.Wire.{widthOf, shortOf, valuedOf, stopOf, headOf, fieldsOf};
+ghost use Rattle.wire.specs.Wire.{widthOf, shortOf, commandOf, stopOf, fullStopOf, headOf, fieldsOf};
 use machine::Answer;
 use machine::Command;
 use machine::Decoded;
@@ -57,41 +57,6 @@ fn command_width(byte: u8) -> usize
     }
 }
 
-// A command at the front of the rest that ends in a value of eight bytes. The arm `_` is write, the shortest.
-fn valued_command(rest: &[u8], value: u64) -> Command
-    requires { ⌜ (11 ≤ length (now rest)) × (widthOf (byteOf (now rest) 0) ≤ length (now rest)) ⌝ }
-    ensures { λ r. ⌜ r ≡ valuedOf (now (rest .entry)) value ⌝ }
-{
-    let strand = rest[1];
-    match rest[0] {
-        2 => Command::Insert {
-            strand,
-            side: rest[2],
-            flags: rest[3],
-            word: value,
-        },
-        3 => Command::DemapPage {
-            strand,
-            side: rest[2],
-            selector: rest[3],
-            flags: rest[4],
-            address: value,
-        },
-        7 => Command::Access {
-            strand,
-            kind: rest[2],
-            selector: rest[3],
-            size: rest[4],
-            address: VirtualAddress(value),
-        },
-        _ => Command::Write {
-            strand,
-            register: rest[2],
-            value,
-        },
-    }
-}
-
 // A command of one-byte operands alone. The arm `_` is invalidate, the shortest.
 fn short_command(rest: &[u8]) -> Command
     requires { ⌜ (2 ≤ length (now rest)) × (widthOf (byteOf (now rest) 0) ≤ length (now rest)) ⌝ }
@@ -120,6 +85,41 @@ fn short_command(rest: &[u8]) -> Command
     }
 }
 
+// The command at the front of the rest, all its bytes there.
+fn known_command(rest: &[u8]) -> Command
+    requires { ⌜ (2 ≤ length (now rest)) × (widthOf (byteOf (now rest) 0) ≤ length (now rest)) ⌝ }
+    ensures { λ r. ⌜ r ≡ commandOf (now (rest .entry)) ⌝ }
+{
+    match rest[0] {
+        1 => Command::Write {
+            strand: rest[1],
+            register: rest[2],
+            value: eight_bytes(rest, 3),
+        },
+        2 => Command::Insert {
+            strand: rest[1],
+            side: rest[2],
+            flags: rest[3],
+            word: eight_bytes(rest, 4),
+        },
+        3 => Command::DemapPage {
+            strand: rest[1],
+            side: rest[2],
+            selector: rest[3],
+            flags: rest[4],
+            address: eight_bytes(rest, 5),
+        },
+        7 => Command::Access {
+            strand: rest[1],
+            kind: rest[2],
+            selector: rest[3],
+            size: rest[4],
+            address: VirtualAddress(eight_bytes(rest, 5)),
+        },
+        _ => short_command(rest),
+    }
+}
+
 // The command at the front of the rest; number 2 where its byte is no command's, number 3 where its width runs past the end.
 fn decode_first(rest: &[u8]) -> Decoded
     requires { ⌜ 0 < length (now rest) ⌝ }
@@ -132,11 +132,7 @@ fn decode_first(rest: &[u8]) -> Decoded
     if rest.len() < width {
         return Decoded::Stop(3);
     }
-    if width < 11 {
-        return Decoded::Known(short_command(rest), width);
-    }
-    let value = eight_bytes(rest, width - 8);
-    Decoded::Known(valued_command(rest, value), width)
+    Decoded::Known(known_command(rest), width)
 }
 
 // What stands at a position of the stream. Past the end there is no byte, and so none of a command.
@@ -177,6 +173,23 @@ pub fn stop_number(decoded: Decoded) -> u8
         Decoded::Stop(number) => number,
         Decoded::Known(_, _) => 0,
     }
+}
+
+// The same where there is no room for an answer: number 4 for a command.
+pub fn stop_without_room(input: &[u8], at: usize) -> u8
+    ensures { λ r. ⌜ r ≡ fullStopOf (decodeAt (now (input .entry)) at) ⌝ }
+{
+    if at >= input.len() {
+        return 2;
+    }
+    let width = command_width(input[at]);
+    if width == 0 {
+        return 2;
+    }
+    if input.len() - at < width {
+        return 3;
+    }
+    4
 }
 
 // ---- answers

@@ -11,8 +11,9 @@ use borrow.Author.Needs.{needs}
 use borrow.Author.Tests.{not-true, not-false}
 use lib.ListN.{length}
 use lib.Seq.{sets}
-use Rattle.machine.specs.declared.Decoded.the-variants.{Known}
-use Rattle.machine.specs.State.{counts, stateWords, stateOf, encode}
+use Rattle.machine.specs.declared.Decoded.{Decoded}
+use Rattle.machine.specs.declared.Decoded.the-variants.{Known, Stop}
+use Rattle.machine.specs.State.{State, counts, stateWords, stateOf, encode}
 use Rattle.machine.specs.State as state
 use Rattle.machine.specs.Step.{step}
 use Rattle.machine.specs.Stream.{Outcome, answerBytes, decodeAt, runOf}
@@ -20,7 +21,7 @@ use Rattle.machine.specs.declared.Answer.{Answer}
 use Rattle.machine.specs.declared.Command.{Command}
 use Rattle.machine.proofs.State.{sound-words, encode-state, sound-encode, step-sound}
 use Rattle.machine.proofs.Runs.{decode-width, resume, resume-start, Over, resume-end, resume-stop, resume-full, resume-turn, run-unsound}
-use Rattle.wire.specs.Wire.{stopOf}
+use Rattle.wire.specs.Wire.{stopOf, fullStopOf}
 use Rattle.stream.proofs.run.Statement.{statement}
 use Rattle.stream.proofs.run.Tie as tie
 
@@ -45,6 +46,12 @@ over : {state₀ input output₀ words output : List ℕ} {at answered : ℕ} (k
     → _≡_ {A = Outcome} (record { words = words; output = output; answered = answered; taken = at; stop = k }) (runOf counts state₀ input output₀)
 over {words} k g o = (rw (encode-state counts words (g .size)) at (sym o)) ∙ g .rest
 
+-- where there is no room a run ends, whatever stands there
+full : (u : State) (input output : List ℕ) (answered at : ℕ) → at < length input → length output - answered * 24 < 24 → (d : Decoded) →
+    decodeAt input at ≡ d → Over u input output answered at (fullStopOf d)
+full u input output answered at h r (Stop k) e = resume-stop u input output answered at h e
+full u input output answered at h r (Known c width) e = resume-full u input output answered at h e r
+
 -- a command answered leaves the outcome as it is
 module _ {state₀ input output₀ words output : List ℕ} {at answered : ℕ} (g : Going state₀ input output₀ words output at answered)
     (c : Command) (words′ : List ℕ) (e : words′ ≡ encode (step (stateOf counts words) c .state)) where
@@ -63,7 +70,7 @@ module _ {state₀ input output₀ words output : List ℕ} {at answered : ℕ} 
 
 module _ (c : tie.After-decoded Inv-loop μ-loop) where
   abbrev head : tie.At-loop Inv-loop μ-loop
-  head = c .before .before .before .before
+  head = c .before .before .before .before .before
 
   abbrev input : List ℕ
   input = head .before .before .before .before .before .before .before .args .input .now
@@ -112,19 +119,10 @@ loop-holds c =
       rest = resume-start counts _ _ _ h;
     }
 
-command-at-requires : tie.Need-command-at-requires Inv-loop μ-loop
-command-at-requires c κs = search needs
+-- no room: numbers 2 and 3, and 4
 
-enum-known-decoded : tie.Need-enum-known-decoded Inv-loop μ-loop
-enum-known-decoded c = c .match .keys1
-
--- numbers 2 and 3
-
-enum-told : tie.Need-enum-told Inv-loop μ-loop
-enum-told c = c .match .keys2
-
-stop-number-requires : tie.Need-stop-number-requires Inv-loop μ-loop
-stop-number-requires c κs = search needs
+stop-without-room-requires : tie.Need-stop-without-room-requires Inv-loop μ-loop
+stop-without-room-requires c κs = search needs
 
 same-length-2 : tie.Need-same-length-2 Inv-loop μ-loop
 same-length-2 c = search needs
@@ -134,13 +132,22 @@ same-length-3 c = search needs
 
 returns-2 : tie.Need-returns-2 Inv-loop μ-loop
 returns-2 c =
-    let told = c .before .enum-told .given in
-    let d = c .before .before .before in
-    let l = d .before .before .loop in
-    let k : c .stop-number .result ≡ told .0 .0 = c .stop-number .ensures ∙ ap stopOf (told .1) in
-    rw k (over _ (l .inv) (resume-stop _ _ _ _ _ (d .before .loop-test .taken) (sym (d .command-at .ensures) ∙ told .1)))
+    let l = c .before .before .before .loop in
+    rw (c .stop-without-room .ensures) (over _ (l .inv) (full _ _ _ _ _ (omega arith) (omega arith) _ refl))
 
--- number 4
+-- numbers 2 and 3
+
+command-at-requires : tie.Need-command-at-requires Inv-loop μ-loop
+command-at-requires c κs = search needs
+
+enum-known-decoded : tie.Need-enum-known-decoded Inv-loop μ-loop
+enum-known-decoded c = c .match .keys1
+
+enum-told : tie.Need-enum-told Inv-loop μ-loop
+enum-told c = c .match .keys2
+
+stop-number-requires : tie.Need-stop-number-requires Inv-loop μ-loop
+stop-number-requires c κs = search needs
 
 same-length-4 : tie.Need-same-length-4 Inv-loop μ-loop
 same-length-4 c = search needs
@@ -150,9 +157,11 @@ same-length-5 c = search needs
 
 returns-3 : tie.Need-returns-3 Inv-loop μ-loop
 returns-3 c =
-    let d = c .before .before in
-    let l = head d .loop in
-    over 4 (l .inv) (resume-full _ _ _ _ _ (d .before .before .before .loop-test .taken) (found d) (omega arith))
+    let told = c .before .enum-told .given in
+    let d = c .before .before .before in
+    let l = d .before .before .before .loop in
+    let k : c .stop-number .result ≡ told .0 .0 = c .stop-number .ensures ∙ ap stopOf (told .1) in
+    rw k (over _ (l .inv) (resume-stop _ _ _ _ _ (omega arith) (sym (d .command-at .ensures) ∙ told .1)))
 
 -- a command answered
 
@@ -169,7 +178,7 @@ put-answer-requires c κs = omega arith
 
 -- the turn's command, from where the turn ends
 abbrev decoded : tie.After-slice-known4 Inv-loop μ-loop → tie.After-decoded Inv-loop μ-loop
-decoded c = c .before .before .before .before .before .before .before .before .before .before
+decoded c = c .before .before .before .before .before .before .before .before .before
 
 add-at : tie.Need-add-at Inv-loop μ-loop
 add-at c = omega (arith, within (decoded c))
@@ -193,7 +202,7 @@ loop-again c =
       kept = did .kept .0 ∙ l .inv .kept;
       room = put .kept .0 ∙ l .inv .room;
       fits = omega (arith, put .kept .0);
-      rest = turn (l .inv) _ _ (did .ensures .0) _ _ _ (d .before .before .before .loop-test .taken) (found d) (omega arith) (did .ensures .1) (put .ensures);
+      rest = turn (l .inv) _ _ (did .ensures .0) _ _ _ (omega arith) (found d) (omega arith) (did .ensures .1) (put .ensures);
     }
 
 -- the end of the input
@@ -205,7 +214,7 @@ same-length-7 : tie.Need-same-length-7 Inv-loop μ-loop
 same-length-7 c = search needs
 
 returns-4 : tie.Need-returns-4 Inv-loop μ-loop
-returns-4 c = over 0 (c .before .loop .inv) (resume-end _ _ _ _ _ (c .loop-test .left))
+returns-4 c = over 0 (c .before .loop .inv) (resume-end _ _ _ _ _ (omega arith))
 
 pub run-spec : {M : Type 1} → statement M
 run-spec =
@@ -217,13 +226,14 @@ run-spec =
     same-length
     returns
     loop-holds
+    stop-without-room-requires
+    same-length-2
+    same-length-3
+    returns-2
     command-at-requires
     enum-known-decoded
     enum-told
     stop-number-requires
-    same-length-2
-    same-length-3
-    returns-2
     same-length-4
     same-length-5
     returns-3

@@ -23,30 +23,14 @@ returns c = sym (law (c .before) .0 ∙ rw (c .if1 .taken))
 returns-2 : tie.Need-returns-2
 returns-2 c = sym (law (c .before .before) .0 ∙ simp (ne-eqb _ _ (c .before .if1 .left), lt-ltb _ _ (c .if2 .taken)))
 
-short-command-requires : tie.Need-short-command-requires
-short-command-requires c κs = let known = c .before .before in (omega (arith, law (known .before) .1 (known .if1 .left)), search needs)
+known-command-requires : tie.Need-known-command-requires
+known-command-requires c κs = let known = c .before in (omega (arith, law (known .before) .1 (known .if1 .left)), search needs)
 
 returns-3 : tie.Need-returns-3
 returns-3 c =
-    let whole = c .before .before in
+    let whole = c .before in
     sym (law (whole .before .before) .0 ∙
-    simp (ne-eqb _ _ (whole .before .if1 .left), le-ltb _ _ (whole .if2 .left), lt-ltb _ _ (c .before .if3 .taken), c .short-command .ensures))
-
-sub-eight-bytes : tie.Need-sub-eight-bytes
-sub-eight-bytes c = search needs
-
-eight-bytes-requires : tie.Need-eight-bytes-requires
-eight-bytes-requires c κs = search needs
-
-valued-command-requires : tie.Need-valued-command-requires
-valued-command-requires c κs = search needs
-
-returns-4 : tie.Need-returns-4
-returns-4 c =
-    let value = c .before in
-    let whole = value .before .before in
-    sym (law (whole .before .before) .0 ∙
-    simp (ne-eqb _ _ (whole .before .if1 .left), le-ltb _ _ (whole .if2 .left), le-ltb _ _ (value .before .if3 .left), c .valued-command .ensures, value .eight-bytes .ensures))
+    simp (ne-eqb _ _ (whole .before .if1 .left), le-ltb _ _ (whole .if2 .left), c .known-command .ensures))
 
 pub decode-first-spec : {M : Type 1} → statement M
 decode-first-spec =
@@ -56,9 +40,5 @@ decode-first-spec =
     command-width-requires
     returns
     returns-2
-    short-command-requires
-    returns-3
-    sub-eight-bytes
-    eight-bytes-requires
-    valued-command-requires
-    returns-4)
+    known-command-requires
+    returns-3)

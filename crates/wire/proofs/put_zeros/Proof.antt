@@ -12,7 +12,7 @@ use Rattle.wire.proofs.put_zeros.Tie as tie
 
 abbrev Inv-loop : tie.InvT-loop
 Inv-loop output₀ at end i₀ output i =
-    (i ≤ end) × (length output ≡ length output₀) × (sets output i (replicate (end - i) 0) ≡ sets output₀ at (replicate 8 0))
+    (i ≤ end) × (length output ≡ length output₀) × (end ≡ at + 8) × (sets output i (replicate (at + 8 - i) 0) ≡ sets output₀ at (replicate 8 0))
 
 abbrev μ-loop : tie.MeasureT-loop
 μ-loop output₀ at end i₀ output i = end - i
@@ -21,7 +21,7 @@ add-end : tie.Need-add-end Inv-loop μ-loop
 add-end c = search needs
 
 loop-holds : tie.Need-loop-holds Inv-loop μ-loop
-loop-holds c = let e : c .args .at + 8 - c .args .at ≡ 8 = omega arith in (omega arith, refl, rw e)
+loop-holds c = let e : c .args .at + 8 - c .args .at ≡ 8 = omega arith in (omega arith, refl, omega arith, rw e)
 
 slice-write-output : tie.Need-slice-write-output Inv-loop μ-loop
 slice-write-output c = omega arith
@@ -35,13 +35,13 @@ loop-less c = omega arith
 loop-again : tie.Need-loop-again Inv-loop μ-loop
 loop-again c =
     let l = c .before .loop in
-    (omega arith, length-set (l .output) (l .i) 0 ∙ l .inv .1, sym (zeros-more (l .output) (l .i) _ (c .loop-test .taken)) ∙ l .inv .2)
+    (omega arith, length-set (l .output) (l .i) 0 ∙ l .inv .1, l .inv .2, sym (zeros-more (l .output) (l .i) _ (omega arith)) ∙ l .inv .3)
 
 same-length : tie.Need-same-length Inv-loop μ-loop
 same-length c = c .before .loop .inv .1
 
 returns : tie.Need-returns Inv-loop μ-loop
-returns c = let l = c .before .loop in sym (zeros-end (l .output) (l .i) _ (c .loop-test .left)) ∙ l .inv .2
+returns c = let l = c .before .loop in sym (zeros-end (l .output) (l .i) _ (omega arith)) ∙ l .inv .3
 
 pub put-zeros-spec : {M : Type 1} → statement M
 put-zeros-spec =
