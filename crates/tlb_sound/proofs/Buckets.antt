@@ -7,12 +7,13 @@ use native.Mathlib.Omega.{arith}
 use native.Mathlib.Numerals.{add-one}
 use native.Mathlib.Nat.{le-max-left, le-max-right, le-refl, le-trans}
 use lib.Dec.{eqb, ltb}
-use lib.Bits.{bitOr, and-le-l, and-le-r, or-add-and}
+use lib.Pow.{split}
+use lib.Bits.{bitAnd, bitOr, and-mask, and-le-l, and-le-r, or-add-and}
 use lib.ListN.{length, getD, set, drop, drop-of-length-le}
 use lib.Seq.{drop-cons, getD-set-same, getD-set-other}
 use borrow.Author.Tests.{eqb-true, eqb-false, eq-eqb, ne-eqb, ltb-true}
 use Rattle.laws.specs.Tests.{anyOf}
-use Rattle.laws.proofs.Bools.{by-test, clash, and-left, and-right, and-no, or-left, or-right, or-other}
+use Rattle.laws.proofs.Bools.{by-test, both-ways, clash, and-left, and-right, and-no, or-left, or-right, or-other}
 use Rattle.laws.proofs.Walks.{any-pass, any-end}
 use Rattle.machine.specs.Pages.{pageShift}
 use Rattle.machine.specs.Slots.{slotsOf, noSlot, isLive, sizeCode, holds}
@@ -77,6 +78,18 @@ block-small m =
     by-test (ltb m 1) (λ e. rw e (omega arith)) (λ e1.
     by-test (ltb m 3) (λ e. rw (e1, e) (omega arith)) (λ e3.
     by-test (ltb m 5) (λ e. rw (e1, e3, e) (omega arith)) (λ e5. rw (e1, e3, e5) (omega arith))))
+
+-- ---- a page start: its low bits are zero
+pub masked : (a k : ℕ) → eqb (bitAnd a (2 ^ k - 1)) 0 ≡ eqb (a / 2 ^ k * 2 ^ k) a
+masked a k =
+    both-ways (eqb (bitAnd a (2 ^ k - 1)) 0) (eqb (a / 2 ^ k * 2 ^ k) a)
+    (λ h.
+    let z : a % 2 ^ k ≡ 0 = sym (and-mask a k) ∙ eqb-true (bitAnd a (2 ^ k - 1)) 0 h in
+    eq-eqb (a / 2 ^ k * 2 ^ k) a (omega (arith, split a k)))
+    (λ h.
+    let z : a / 2 ^ k * 2 ^ k ≡ a = eqb-true (a / 2 ^ k * 2 ^ k) a h in
+    let m : a % 2 ^ k ≡ 0 = omega (arith, split a k) in
+    eq-eqb (bitAnd a (2 ^ k - 1)) 0 (and-mask a k ∙ m))
 
 -- ---- when two slots overlap
 -- an empty slot overlaps none

@@ -25,6 +25,19 @@ pub fn owner_sound(x: Slot) -> bool
     x.owner % 0x2000 == 0
 }
 
+// The bits of an address below a page start, by size code.
+fn page_mask(code: u64) -> u64
+    ensures { λ r. ⌜ r ≡ pageSize code - 1 ⌝ }
+{
+    match code {
+        0 => 0x1FFF,
+        1 => 0xFFFF,
+        3 => 0x3F_FFFF,
+        5 => 0xFFF_FFFF,
+        _ => 0,
+    }
+}
+
 // In range and at a page start.
 pub fn page_sound(x: Slot) -> bool
     ensures { λ r. ⌜ r ≡ pageSound x ⌝ }
@@ -32,7 +45,7 @@ pub fn page_sound(x: Slot) -> bool
     if !pages::in_range(x.page) {
         return false;
     }
-    pages::page_start(x.word % 16, x.page) == x.page
+    x.page & page_mask(x.word % 16) == 0
 }
 
 fn live_sound(x: Slot) -> bool
