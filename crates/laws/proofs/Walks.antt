@@ -92,6 +92,12 @@ pair-drop f s zero h = h
 pair-drop f [] (suc i) h = h
 pair-drop f (x ∷ r) (suc i) h = rw (pair-drop f r i h) (and-no (not (anyOf (f x) r)))
 
+-- tests that agree find the same
+pub first-same : {A : Type 0} (p q : A → Bool) → ((x : A) → p x ≡ q x) → (s : List A) (k : ℕ) → firstFrom p k s ≡ firstFrom q k s
+unfolding firstFrom
+first-same p q e [] k = refl
+first-same p q e (x ∷ s) k = rw (e x, first-same p q e s (suc k))
+
 -- ---- what a search says: the index found is within and passes, or none passes
 module _ {A : Type 0} (d : A) (p : A → Bool) where
   abbrev pub Says : List A → ℕ → Found → Type 0

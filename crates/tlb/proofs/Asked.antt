@@ -12,12 +12,13 @@ use lib.ListN.{getD, set, replicate, getD-replicate}
 use lib.Seq.{getD-set-other}
 use borrow.Author.Tests.{eqb-true, eqb-false, eq-eqb, ne-eqb, ltb-true, ltb-false}
 use Rattle.laws.proofs.Bools.{by-test, and-no, or-comm}
+use Rattle.machine.specs.declared.Key.{Key}
 use Rattle.machine.specs.declared.Slot.{Slot}
 use Rattle.machine.specs.Pages.{pageShift, pageSize, pageStart}
 use Rattle.machine.proofs.Pages.{start-block}
-use Rattle.machine.specs.Slots.{isLive, sizeCode, holds}
+use Rattle.machine.specs.Slots.{isLive, sizeCode, holds, keyOwner, keyAddress, answersTo}
 use Rattle.machine.specs.Insertion.{overlaps}
-use Rattle.tlb.specs.Tables.{byCode, startsOf, spansOf, answersBy, answersAt}
+use Rattle.tlb.specs.Tables.{byCode, startsOf, spansOf, answersBy}
 
 -- a table at a size code
 by-code : (other : ℕ) (f : ℕ → ℕ) (code : ℕ) → other ≡ f 0 → code < 16 → getD (byCode other f) code 0 ≡ f (pageShift code)
@@ -49,9 +50,9 @@ page-asked : (x : Slot) (a : ℕ) → holds x a ≡ eqb (getD (startsOf a) (size
 page-asked x a = ap (λ (n : ℕ). eqb n (x .page)) (sym (start-at a (sizeCode x) (omega arith)))
 
 -- to answer by the prepared starts is to answer
-pub asked : (owner address : ℕ) (x : Slot) → answersBy owner (startsOf address) x ≡ answersAt owner address x
-unfolding answersBy answersAt
-asked owner address x = rw (page-asked x address)
+pub asked : (key : Key) (x : Slot) → answersBy (keyOwner key) (startsOf (keyAddress key)) x ≡ answersTo key x
+unfolding answersBy answersTo
+asked key x = rw (page-asked x (keyAddress key))
 
 -- ---- whether x overlaps y
 xor-zero : (a b : ℕ) → bitXor a b ≡ 0 → a ≡ b

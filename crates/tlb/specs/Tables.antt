@@ -6,7 +6,7 @@ use mathlib.Core.List.{List}
 use mathlib.Core.Bool.{Bool, _&&_}
 use lib.Dec.{eqb}
 use lib.ListN.{getD, set, replicate}
-use Rattle.machine.specs.Slots.{isLive, holds, sizeCode}
+use Rattle.machine.specs.Slots.{isLive, sizeCode}
 use Rattle.machine.specs.declared.Slot.{Slot}
 
 -- f of the page shift at a listed size code, and another number at the others
@@ -24,7 +24,3 @@ spansOf size = byCode size (λ k. max size (2 ^ k))
 -- a live slot of the owner whose page has the start that a table gives for its size code
 unfoldable pub answersBy : ℕ → List ℕ → Slot → Bool
 answersBy owner start x = isLive x && (eqb (x .owner) owner && eqb (getD start (sizeCode x) 0) (x .page))
-
--- a live slot of the owner whose page holds the address
-unfoldable pub answersAt : ℕ → ℕ → Slot → Bool
-answersAt owner address x = isLive x && (eqb (x .owner) owner && holds x address)

@@ -3,11 +3,11 @@ ghost use mathlib.Core.Path.{_≡_};
 ghost use mathlib.Core.Bool.{not};
 ghost use Prim.Native.Nat.{_+_, _*_, _<_, _≤_, _%_, max};
 ghost use lib.ListN.{length, drop};
-ghost use Rattle.laws.specs.Tests.{anyOf, first};
+ghost use Rattle.laws.specs.Tests.{anyOf, first, firstFrom};
 ghost use Rattle.machine.specs.Pages.{pageSize};
 ghost use Rattle.machine.specs.Slots.{slotsOf, wordsOf, slotOf, withSlot, onSlot, ownerWord, keyOwner, keyAddress, isLive, pageMatch, search, withUsed, clearUsed, sizeCode};
 ghost use Rattle.machine.specs.Insertion.{overlaps};
-ghost use Rattle.tlb.specs.Tables.{startsOf, spansOf, answersBy, answersAt};
+ghost use Rattle.tlb.specs.Tables.{startsOf, spansOf, answersBy};
 use laws::Found;
 use machine::Key;
 use machine::PageMatch;
@@ -126,15 +126,14 @@ fn answers_at(slots: &[u64], i: usize, owner: u64, start: &[u64; 16]) -> bool
     word >> 63 == 1
 }
 
-// The lowest live slot of the owner whose page holds the address.
-fn search_owner(slots: &[u64], owner: u64, address: u64) -> Found
-    ensures { λ r. ⌜ r ≡ first (answersAt owner address) (slotsOf (now (slots .entry))) ⌝ }
+// The lowest slot from the one given on that answers by the starts.
+fn search_rest(slots: &[u64], from: usize, owner: u64, start: &[u64; 16]) -> Found
+    ensures { λ r. ⌜ r ≡ firstFrom (answersBy owner (now (start .entry))) from (drop from (slotsOf (now (slots .entry)))) ⌝ }
 {
-    let start = starts(address);
     let n = slots.len() / 4;
-    let mut i = 0;
+    let mut i = from;
     while i < n {
-        if answers_at(slots, i, owner, &start) {
+        if answers_at(slots, i, owner, start) {
             return Found::At(i);
         }
         i += 1;
@@ -142,11 +141,36 @@ fn search_owner(slots: &[u64], owner: u64, address: u64) -> Found
     Found::Nothing
 }
 
+// The lowest slot that answers by the starts. Most do not: four a turn.
+fn search_starts(slots: &[u64], owner: u64, start: &[u64; 16]) -> Found
+    ensures { λ r. ⌜ r ≡ first (answersBy owner (now (start .entry))) (slotsOf (now (slots .entry))) ⌝ }
+{
+    let n = slots.len() / 4;
+    let mut i = 0;
+    while i + 3 < n {
+        if answers_at(slots, i, owner, start) {
+            return Found::At(i);
+        }
+        if answers_at(slots, i + 1, owner, start) {
+            return Found::At(i + 1);
+        }
+        if answers_at(slots, i + 2, owner, start) {
+            return Found::At(i + 2);
+        }
+        if answers_at(slots, i + 3, owner, start) {
+            return Found::At(i + 3);
+        }
+        i += 4;
+    }
+    search_rest(slots, i, owner, start)
+}
+
 // The lowest live slot that answers to the key.
 pub fn search(slots: &[u64], key: Key) -> Found
     ensures { λ r. ⌜ r ≡ search key (slotsOf (now (slots .entry))) ⌝ }
 {
-    search_owner(slots, key_owner(key), key_address(key))
+    let start = starts(key_address(key));
+    search_starts(slots, key_owner(key), &start)
 }
 
 // Sets the used bit of slot i.

@@ -1,24 +1,32 @@
--- `tlb::search` meets its contract: to answer to a key is to answer to its owner and its address.
+-- `tlb::search` meets its contract: to answer by the starts of a key's address is to answer to the key.
 use mathlib.Core.Path.{_∙_}
 use borrow.Author.Needs.{needs}
-use Rattle.machine.specs.Slots.{answersTo}
-use Rattle.tlb.specs.Tables.{answersAt}
+use Rattle.laws.proofs.Walks.{first-same}
+use Rattle.machine.specs.Slots.{slotsOf}
+use Rattle.tlb.proofs.Asked.{asked}
 use Rattle.tlb.proofs.search.Statement.{statement}
 use Rattle.tlb.proofs.search.Tie as tie
-
-key-owner-requires : tie.Need-key-owner-requires
-key-owner-requires c κs = search needs
 
 key-address-requires : tie.Need-key-address-requires
 key-address-requires c κs = search needs
 
-search-owner-requires : tie.Need-search-owner-requires
-search-owner-requires c κs = search needs
+starts-requires : tie.Need-starts-requires
+starts-requires c κs = search needs
+
+key-owner-requires : tie.Need-key-owner-requires
+key-owner-requires c κs = search needs
+
+search-starts-requires : tie.Need-search-starts-requires
+search-starts-requires c κs = search needs
 
 returns : tie.Need-returns
-unfolding answersAt answersTo
-returns c = c .search-owner .ensures ∙ rw (c .before .key-address .ensures, c .before .before .key-owner .ensures)
+returns c =
+    let owner = c .before .before in
+    let starts = owner .before in
+    let a = starts .before .before .before .args in
+    c .search-starts .ensures ∙
+    rw (owner .key-owner .ensures, starts .starts .ensures, starts .before .key-address .ensures) (first-same _ _ (asked (a .key)) (slotsOf (a .slots .now)) 0)
 
 pub search-spec : {M : Type 1} → statement M
 search-spec =
-    tie.close (tie.spec key-owner-requires key-address-requires search-owner-requires returns)
+    tie.close (tie.spec key-address-requires starts-requires key-owner-requires search-starts-requires returns)
