@@ -133,8 +133,7 @@ fn lookups() -> Vec<Work> {
     let (one, eight) = (state(Population::OneGuest), state(Population::EightPartitions));
     let first = one[385];
     vec![
-        // with nothing to pass over; 0.7 is for hits spread over the side
-        long("hit, first slot", 1.0, &one, move |i| load(0, first + 8 * (i as u64 % 1024))),
+        long("hit, first slot", 0.7, &one, move |i| load(0, first + 8 * (i as u64 % 1024))),
         long_hits("hit, random slot, one guest", 0.7, one.clone()),
         long_hits("hit, random slot, one guest, four page sizes", 0.7, state(Population::FourSizes)),
         long_hits("hit, random slot, eight partitions", 1.0, eight.clone()),

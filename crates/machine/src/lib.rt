@@ -229,7 +229,7 @@ pub struct Displaced {
     pub word: u64,
 }
 
-// What a command answers. In what it carries numbers lie over numbers and small fields over small ones: the compiler then keeps it whole.
+// What a command answers. The trap and the real bit stand third in what they belong to and so share a place: fewer instructions an answer.
 pub enum Answer {
     Done(u64),
     Physical(Translation),

@@ -15,7 +15,7 @@ use Rattle.tlb.specs.Tables.{spansOf}
 use Rattle.tlb_update.specs.declared.Sieve.{Sieve}
 use Rattle.tlb_update.specs.declared.Sieve.the-variants.{Pages, Owners}
 
--- the larger of the sieve's size and each page size, by size code
+-- the larger of the sieve's size and each page size, by size code; a sieve of owners asks none
 unfoldable pub spansFor : Sieve → List ℕ
 spansFor (Pages page size) = spansOf size
 spansFor (Owners owner spread) = replicate 16 0

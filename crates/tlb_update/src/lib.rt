@@ -101,7 +101,7 @@ fn sieve_of(which: Removal) -> Sieve
     }
 }
 
-// The larger of the sieve's size and each page size, by size code.
+// The larger of the sieve's size and each page size, by size code; a sieve of owners asks none.
 fn spans_of(sieve: Sieve) -> [u64; 16]
     ensures { λ r. ⌜ r ≡ spansFor sieve ⌝ }
 {
