@@ -1,10 +1,9 @@
 // One access: document 01, "Access". Prepare (steps 1 to 4), lookup (5), judge (6 to 8), settle (used bit and registers).
 ghost use mathlib.Core.Path.{_≡_};
-ghost use mathlib.Core.Bool.{true, not, _&&_, _||_};
+ghost use mathlib.Core.Bool.{true, not, cond, _&&_, _||_};
 ghost use Prim.Native.Nat.{_+_, _%_, _^_, _<_, _≤_};
 ghost use lib.Dec.{eqb};
 ghost use lib.ListN.{length};
-ghost use Rattle.laws.specs.Tests.{pick};
 ghost use Rattle.laws.specs.declared.Found.the-variants.{At, Nothing};
 ghost use Rattle.machine.specs.Words.{bits};
 ghost use Rattle.machine.specs.Registers.{withRegister, translates, registersSound};
@@ -162,7 +161,7 @@ fn miss_of(state: &[u64], a: Access) -> Trap
 
 // A fault type's weight where both tests hold.
 fn share(one: bool, other: bool, weight: u64) -> u64
-    ensures sum { λ r. ⌜ r ≡ pick (one && other) weight 0 ⌝ }
+    ensures sum { λ r. ⌜ r ≡ cond (one && other) weight 0 ⌝ }
     ensures small { λ r. ⌜ r ≤ weight ⌝ }
 {
     if one {

@@ -1,8 +1,9 @@
 -- Tests of all elements and of every pair, under a read, a map and a store. Over any type. Assumes nothing.
-use Prim.Native.Nat.{ℕ, zero, suc}
+use Prim.Native.Nat.{ℕ, zero, suc, _<_}
 use mathlib.Core.Path.{_≡_, refl, ap, sym, _∙_}
 use mathlib.Core.List.{List, [], _∷_, map}
 use mathlib.Core.Bool.{Bool, true, false, not, _&&_}
+use native.Mathlib.Omega.{arith}
 use lib.ListN.{getD, set}
 use borrow.Author.Tests.{not-true}
 use Rattle.laws.specs.Tests.{anyOf, allOf, pairwise}
@@ -81,3 +82,14 @@ module _ {A : Type 0} where
         let here : not (f y x) ≡ true = deny (λ t. c y (getD r i d) ∙ k y (and-left (p y) _ g) (c x y ∙ t)) there in
         pair-cons y (set r i x)
         ∙ and-both _ _ (all-set (clear y) r i x here before) (pair-set d x p r i c n k (and-right (p y) _ g) (and-right (allOf (clear y) r) _ e))
+
+    -- no two elements clash. The default clashes with none
+    pub pair-get : (d : A) → ((y : A) → f y d ≡ false) → (s : List A) (i j : ℕ) → i < j → pairwise f s ≡ true → f (getD s i d) (getD s j d) ≡ false
+    pair-get d z [] i j l h = z d
+    pair-get d z (x ∷ r) i zero l h = absurd (omega arith)
+    pair-get d z (x ∷ r) zero (suc j) l h =
+        let e : (allOf (clear x) r && pairwise f r) ≡ true = sym (pair-cons x r) ∙ h in
+        not-true _ (all-get (clear x) d r j (ap not (z x)) (and-left _ _ e))
+    pair-get d z (x ∷ r) (suc i) (suc j) l h =
+        let e : (allOf (clear x) r && pairwise f r) ≡ true = sym (pair-cons x r) ∙ h in
+        pair-get d z r i j (omega arith) (and-right (allOf (clear x) r) _ e)

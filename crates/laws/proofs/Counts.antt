@@ -1,13 +1,14 @@
 -- Laws of counting: under append, removal, store and map; and of one element among many. Over any type and any test. Assumes nothing.
 use mathlib.Core.Path.{_≡_, refl, ap}
-use mathlib.Core.Bool.{Bool, true, false, not, _&&_}
+use mathlib.Core.Bool.{Bool, true, false, not, cond, _&&_}
 use mathlib.Core.List.{List, [], _∷_, _++_, map}
 use Prim.Native.Nat.{ℕ, zero, suc, _+_, _≤_, _<_}
 use native.Mathlib.Nat.{le-of-suc-le-suc, not-suc-le-zero}
 use native.Mathlib.Omega.{arith}
 use lib.ListN.{length, getD, set}
 use borrow.Author.Tests.{not-true}
-use Rattle.laws.specs.Tests.{pick, tick, count, anyOf, allOf, pairwise, without}
+use Rattle.laws.specs.Tests.{tick, count, anyOf, allOf, pairwise}
+use Rattle.laws.specs.Passing.{passing}
 use Rattle.laws.proofs.Bools.{by-test, clash, and-both, and-left, and-right, or-left, or-right}
 
 pub tick-mono : (a b : Bool) → (a ≡ true → b ≡ true) → tick a ≤ tick b
@@ -27,16 +28,11 @@ module _ {A : Type 0} where
   count-append p [] m = omega arith
   count-append p (x ∷ l) m = omega (arith, count-append p l m)
 
-  count-pick : (p : A → Bool) (b : Bool) (x : A) (l : List A) → count p (pick b l (x ∷ l)) ≡ tick (not b && p x) + count p l
-  unfolding count
-  count-pick p true x l = omega arith
-  count-pick p false x l = refl
-
-  -- after a removal from a list
-  pub count-without : (p q : A → Bool) (l : List A) → count p (without q l) ≡ count (λ x. not (q x) && p x) l
-  unfolding count without
-  count-without p q [] = refl
-  count-without p q (x ∷ l) = omega (arith, count-pick p (q x) x (without q l), count-without p q l)
+  -- of those that pass another test
+  pub count-passing : (p q : A → Bool) (l : List A) → count p (passing q l) ≡ count (λ x. q x && p x) l
+  unfolding count passing
+  count-passing p q [] = refl
+  count-passing p q (x ∷ l) = by-test (q x) (λ e. rw e (omega (arith, count-passing p q l))) (λ e. rw e (omega (arith, count-passing p q l)))
 
   -- after a store: the old element's share goes, the new one's comes
   pub count-set : (p : A → Bool) (l : List A) (i : ℕ) (x d : A) → i < length l → count p (set l i x) + tick (p (getD l i d)) ≡ count p l + tick (p x)

@@ -9,7 +9,8 @@ use native.Mathlib.Omega.{arith}
 use lib.Dec.{eqb}
 use lib.ListN.{length, getD}
 use borrow.Author.Tests.{eq-eqb, ne-eqb}
-use Rattle.laws.specs.Tests.{tick, count, anyOf, allOf, without, find, firstFrom, first}
+use Rattle.laws.specs.Tests.{tick, count, anyOf, allOf, firstFrom, first}
+use Rattle.laws.specs.Passing.{passing, howMany, nonePasses, without, find}
 use Rattle.laws.proofs.Bools.{by-test, clash, and-both, and-left, and-right}
 use Rattle.laws.proofs.Counts.{count-at, count-le, count-split, count-any, none-count}
 
@@ -41,7 +42,7 @@ module _ {A : Type 0} where
   FindSays p l (some x) = (p x ≡ true) × Stands x l
 
   pub find-says : (p : A → Bool) (l : List A) → FindSays p l (find p l)
-  unfolding find count
+  unfolding passing count
   find-says p [] = refl
   find-says p (y ∷ l) = by-test (p y)
       (λ e. rw e (e, (0, omega arith, refl)))
@@ -61,7 +62,7 @@ module _ {A : Type 0} where
   -- ---- a test passed at most once
   -- find does not see the order
   pub find-only : (p : A → Bool) (l : List A) (x : A) → p x ≡ true → Stands x l → count p l ≤ 1 → find p l ≡ some x
-  unfolding find count
+  unfolding passing count
   find-only p [] x e (i, h, g) one = absurd (omega arith)
   find-only p (y ∷ l) x e (zero, h, g) one = rw (g, e)
   find-only p (y ∷ l) x e (suc i, h, g) one =
@@ -105,8 +106,17 @@ module _ {A : Type 0} where
       (λ e. rw e (eq-eqb (count p l) 0 (none-count p l e)))
 
   pub without-none : (p : A → Bool) (l : List A) → count p l ≡ 0 → without p l ≡ l
-  unfolding count without
+  unfolding count passing
   without-none p [] h = refl
   without-none p (x ∷ l) h = by-test (p x)
       (λ e. absurd (omega (arith, ap tick e)))
       (λ e. rw (e, without-none p l (omega (arith, ap tick e))))
+
+  -- ---- those that pass, counted
+  pub how-many : (p : A → Bool) (l : List A) → howMany p l ≡ count p l
+  unfolding count passing
+  how-many p [] = refl
+  how-many p (x ∷ l) = by-test (p x) (λ e. rw e (omega (arith, how-many p l))) (λ e. rw e (omega (arith, how-many p l)))
+
+  pub none-passes : (p : A → Bool) (l : List A) → nonePasses p l ≡ not (anyOf p l)
+  none-passes p l = rw (how-many p l) (zero-none p l)

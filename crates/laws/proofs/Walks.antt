@@ -1,14 +1,14 @@
 -- What a loop over a list knows: a search, a test or a count of the elements from i on, and a rewriting of those before i.
 -- Over any type and any test. Assumes nothing.
 use mathlib.Core.Path.{_≡_, refl, ap, _∙_}
-use mathlib.Core.Bool.{Bool, true, false, not, _&&_, _||_}
+use mathlib.Core.Bool.{Bool, true, false, not, cond, _&&_, _||_}
 use mathlib.Core.List.{List, [], _∷_, map}
 use Prim.Native.Nat.{ℕ, zero, suc, _+_, _≤_, _<_}
 use native.Mathlib.Omega.{arith}
 use native.Mathlib.Numerals.{add-one}
 use lib.ListN.{length, getD, set, drop, drop-of-length-le}
 use lib.Seq.{drop-cons}
-use Rattle.laws.specs.Tests.{pick, tick, count, anyOf, allOf, pairwise, firstFrom, first}
+use Rattle.laws.specs.Tests.{tick, count, anyOf, allOf, pairwise, firstFrom, first}
 use Rattle.laws.specs.declared.Found.{Found}
 use Rattle.laws.specs.declared.Found.the-variants.{At, Nothing}
 use Rattle.laws.proofs.Bools.{by-test, and-no, or-comm}
@@ -16,7 +16,7 @@ use Rattle.laws.proofs.Bools.{by-test, and-no, or-comm}
 module _ {A : Type 0} (d : A) (s : List A) (i : ℕ) where
   -- ---- the first that passes
   module _ (p : A → Bool) where
-    first-step : i < length s → firstFrom p i (drop i s) ≡ pick (p (getD s i d)) (At i) (firstFrom p (i + 1) (drop (i + 1) s))
+    first-step : i < length s → firstFrom p i (drop i s) ≡ cond (p (getD s i d)) (At i) (firstFrom p (i + 1) (drop (i + 1) s))
     unfolding firstFrom
     first-step h = rw (add-one, drop-cons s i d)
 

@@ -1,21 +1,14 @@
 -- Tests of the elements of a list: how many pass, whether any or all do, the first that does. Over any type and any test.
 -- Assumes nothing.
-use mathlib.Core.Bool.{Bool, true, false, not, _&&_, _||_}
+use mathlib.Core.Bool.{Bool, true, false, not, cond, _&&_, _||_}
 use mathlib.Core.List.{List, [], _∷_}
-use mathlib.Core.Option.{Option, none, some}
 use Prim.Native.Nat.{ℕ, zero, suc, _+_}
 use Rattle.laws.specs.declared.Found.{Found}
 use Rattle.laws.specs.declared.Found.the-variants.{At, Nothing}
 
--- one of two values, by a test
-abbrev pub pick : {A : Type 0} → Bool → A → A → A
-pick true a b = a
-pick false a b = b
-
 -- 1 where a test passes
 abbrev pub tick : Bool → ℕ
-tick true = 1
-tick false = 0
+tick test = cond test 1 0
 
 -- whether a test passes at every number below n
 unfoldable pub allBelow : (ℕ → Bool) → ℕ → Bool
@@ -43,20 +36,10 @@ module _ {A : Type 0} where
   pairwise clash [] = true
   pairwise clash (x ∷ r) = not (anyOf (clash x) r) && pairwise clash r
 
-  -- those that do not pass, in their order
-  unfoldable pub without : (A → Bool) → List A → List A
-  without p [] = []
-  without p (x ∷ r) = pick (p x) (without p r) (x ∷ without p r)
-
-  -- the first that passes
-  unfoldable pub find : (A → Bool) → List A → Option A
-  find p [] = none
-  find p (x ∷ r) = pick (p x) (some x) (find p r)
-
   -- the index of the first that passes, counted from k
   unfoldable pub firstFrom : (A → Bool) → ℕ → List A → Found
   firstFrom p k [] = Nothing
-  firstFrom p k (x ∷ r) = pick (p x) (At k) (firstFrom p (suc k) r)
+  firstFrom p k (x ∷ r) = cond (p x) (At k) (firstFrom p (suc k) r)
 
   abbrev pub first : (A → Bool) → List A → Found
   first p s = firstFrom p 0 s

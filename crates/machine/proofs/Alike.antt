@@ -1,17 +1,18 @@
--- How a state of the unit and a ledger stand to each other: the same registers, and on each side the same entries.
+-- How a state of the unit and a ledger with its places stand to each other: the same registers, on each side the same entries, and each in its place.
 -- Assumes nothing.
 use Prim.Native.Nat.{ℕ, _<_}
 use mathlib.Core.Path.{_≡_}
-use mathlib.Core.Bool.{Bool, true, _&&_}
-use mathlib.Core.List.{List}
+use mathlib.Core.Bool.{Bool, true, cond, _&&_}
+use mathlib.Core.List.{List, map}
 use lib.ListN.{length}
 use Rattle.laws.specs.Tests.{count}
-use Rattle.machine.specs.Slots.{isLive}
+use Rattle.machine.specs.Slots.{isLive, isUsed}
 use Rattle.machine.specs.Sound.{sideSound}
 use Rattle.machine.specs.Registers.{register, registersSound}
-use Rattle.machine.specs.State.{Counts, State}
+use Rattle.machine.specs.State.{Counts, State, sideOf}
 use Rattle.machine.specs.Ledger.{Entry, Ledger}
-use Rattle.machine.specs.Demand3.{entryIn}
+use Rattle.machine.specs.Places.{Place, empty, filled, Reference}
+use Rattle.machine.specs.Frame.{entryIn}
 use Rattle.machine.specs.declared.Slot.{Slot}
 
 -- a live slot whose entry passes
@@ -29,3 +30,15 @@ pub record Alike (n : Counts) (u : State) (l : Ledger) : Type 0 where
   pub registers : (strand number : ℕ) → strand < 4 → number < 32 → l .registers strand number ≡ register (u .registers) strand number
   pub itlb : SideAlike (n .itlb) (u .itlb) (l .entries 0)
   pub dtlb : SideAlike (n .dtlb) (u .dtlb) (l .entries 1)
+
+-- what stands in a slot, as a place
+abbrev pub placeIn : Slot → Place
+placeIn x = cond (isLive x) (filled (entryIn x) (isUsed x)) empty
+
+-- the places are the unit's slots
+pub record PlacesAlike (u : State) (p : ℕ → List Place) : Type 0 where
+  pub at : (side : ℕ) → side < 2 → p side ≡ map placeIn (sideOf u side)
+
+pub record ReferenceAlike (n : Counts) (u : State) (k : Reference) : Type 0 where
+  pub ledger : Alike n u (k .ledger)
+  pub places : PlacesAlike u (k .places)

@@ -2,31 +2,36 @@
 use Prim.Native.Nat.{ℕ, zero, suc, _-_, _/_, _%_, _^_, _≤_, _<_}
 use mathlib.Core.Path.{_≡_, refl, sym, ap, _∙_}
 use mathlib.Core.Bool.{Bool, true, false, not}
-use mathlib.Core.List.{List}
+use mathlib.Core.List.{List, map}
 use native.Mathlib.Omega.{arith}
 use lib.Dec.{eqb, ltb, leb}
 use lib.ListN.{length, getD}
-use borrow.Author.Tests.{eqb-true, eq-eqb, ltb-true}
+use borrow.Author.Tests.{eqb-true, eq-eqb, ltb-true, not-true}
 use mathlib.Core.Option.{Option, none, some}
-use Rattle.laws.specs.Tests.{tick, count, anyOf, allOf, find, first}
+use Rattle.laws.specs.Tests.{tick, count, anyOf, allOf, first}
+use Rattle.laws.specs.Passing.{howMany, nonePasses, find}
 use Rattle.laws.specs.declared.Found.{Found}
 use Rattle.laws.specs.declared.Found.the-variants.{At, Nothing}
 use Rattle.laws.proofs.Bools.{by-test, clash, and-left, and-right, and-both, or-other}
-use Rattle.laws.proofs.Finds.{stands-count, FindSays, find-says, find-only, find-zero}
-use Rattle.machine.specs.Slots.{noSlot, isLive, answersTo, isReal}
+use Rattle.laws.proofs.Counts.{none-count}
+use Rattle.laws.proofs.Walks.{found-none}
+use Rattle.laws.proofs.Finds.{stands-count, how-many, none-passes, FindSays, find-says, find-only, find-zero}
+use Rattle.machine.specs.Slots.{noSlot, isLive, answersTo, isReal, setUsed}
 use Rattle.machine.specs.Pages.{inRange}
 use Rattle.machine.specs.Words.{wordSound}
 use Rattle.machine.specs.Insertion.{removes, candidate, placed, inserted, hasSlot}
 use Rattle.machine.specs.Sound.{slotSound}
 use Rattle.machine.specs.Registers.{partition, selected}
 use Rattle.machine.specs.Questions.{kindSide, flagReal, keyOf, asked, verdict}
-use Rattle.machine.specs.Access.{lookupKey, settleFound, accessTo}
+use Rattle.machine.specs.Access.{lookupKey, prepare, settleFound, accessTo}
 use Rattle.machine.specs.declared.Access.{Access}
 use Rattle.machine.specs.State.{Counts, slotCount, State, sideOf, withSide}
 use Rattle.machine.specs.Step.{placedAnswer, demap, act}
 use Rattle.machine.specs.Stream.{Bytes, answerBytes}
-use Rattle.machine.specs.Ledger.{Entry, Ledger, Name, nameIn, isNamed, line, lacksSlot, overlap, unlocked, Written, inserts, demaps, withEntries, isAt, inContext, contextPicked, translationOn, Asked, askedSide, earlySteps, foundBy, misses, lookedUp, accesses, pointers, does}
-use Rattle.machine.specs.Demand3.{entryIn, InsertionSays, AccessSays}
+use Rattle.machine.specs.Ledger.{Entry, Ledger, Name, nameIn, isNamed, line, lacksSlot, overlap, unlocked, Written, inserts, demaps, withEntries, isAt, inContext, contextPicked, translationOn, Asked, askedSide, earlySteps, looksUp, foundBy, misses, lookedUp, accesses, pointers, does}
+use Rattle.machine.specs.Places.{Reference, emptied, marked, each, accessed, moved}
+use Rattle.machine.specs.Demand3.{InsertionSays, AccessSays}
+use Rattle.machine.specs.Frame.{entryIn}
 use Rattle.machine.specs.declared.Slot.{Slot}
 use Rattle.machine.specs.declared.Removal.{Removal}
 use Rattle.machine.specs.declared.Removal.the-variants as removal
@@ -40,10 +45,12 @@ use Rattle.machine.specs.declared.Answer.the-variants as answer
 use Rattle.machine.specs.declared.Verdict.the-variants.{Passed}
 use Rattle.machine.proofs.State.{strand-sound, kind-side, passed-asked}
 use Rattle.machine.proofs.Questions.{context-picked, write-bytes, write-alike, read-bytes, pointers-bytes}
-use Rattle.machine.proofs.Looks.{StepAlike, askedOf, key-alike, key-small, miss-alike, hit-alike, miss-not-hit, access-alike, fit-none, used-alike}
+use Rattle.machine.proofs.Looks.{StepAlike, askedOf, Early, looks, ends, prepare-alike, key-alike, key-small, miss-alike, hit-alike, miss-not-hit, access-alike, fit-none, used-alike}
+use Rattle.machine.proofs.Unseen.{SameSlots, found-slots}
 use Rattle.machine.proofs.Bytes.{line-answer, name-back, line-kind}
-use Rattle.machine.proofs.Alike.{SideAlike, Alike}
-use Rattle.machine.proofs.Sides.{SameTest, page-test, context-test, partition-test, key-test, aligned, alike-nothing, alike-found, alike-one, alike-used, alike-count, alike-removed, alike-emptied, nameOf, named-self, DisplacedSays, alike-lacks, alike-done, alike-displaced, inserts-refused, inserts-done, inserts-displaced}
+use Rattle.machine.proofs.Alike.{SideAlike, Alike, placeIn, PlacesAlike, ReferenceAlike}
+use Rattle.machine.proofs.Places.{displaced-way, emptied-side, marked-side, unmarked-side, places-each, places-same}
+use Rattle.machine.proofs.Sides.{SameTest, everything-test, page-test, context-test, partition-test, key-test, aligned, alike-nothing, alike-found, alike-one, alike-used, alike-count, alike-removed, alike-emptied, nameOf, named-self, DisplacedSays, alike-lacks, alike-done, alike-displaced, inserts-refused, inserts-done, inserts-displaced}
 
 -- ---- a side of two that are alike
 pub alike-side : {n : Counts} {u : State} {l : Ledger} (side : ℕ) → side < 2 → Alike n u l → SideAlike (slotCount n side) (sideOf u side) (l .entries side)
@@ -70,7 +77,8 @@ module _ {n : Counts} {u : State} {l : Ledger} (h : Alike n u l) (side : ℕ) (b
   unfolding answerBytes
   demap-bytes which p t =
       let s = alike-side side b h in
-      sym (line-answer 0 _ 0 (omega arith) (omega arith) (omega arith) ∙ ap (λ (k : ℕ). line 0 0 0 0 k 0) (alike-count s t))
+      let m : List Entry = l .entries side in
+      sym (line-answer 0 _ 0 (omega arith) (omega arith) (omega arith) ∙ ap (λ (k : ℕ). line 0 0 0 0 k 0) (alike-count s t ∙ sym (how-many p m)))
 
   pub demap-alike : (which : Removal) (p : Entry → Bool) → SameTest (removes which) p → Alike n (demap u side which .state) (demaps l side p .ledger)
   demap-alike which p t = alike-with-side side b h (alike-removed (alike-side side b h) t)
@@ -108,14 +116,14 @@ displaced-name x k l =
     rw e (named-self x)
 
 pub insertion-says : {n : ℕ} {s : List Slot} {m : List Entry} → SideAlike n s m → (new : Slot) → slotSound new ≡ true → isLive new ≡ true
-    → InsertionSays n s m (entryIn new) (answerBytes (placedAnswer (placed candidate new s)))
+    → InsertionSays n (map placeIn s) m (entryIn new) (answerBytes (placedAnswer (placed candidate new s)))
 unfolding answerBytes
 insertion-says {n} {s} {m} h new k l = go (placed candidate new s) refl
   where
     e : Entry
     e = entryIn new
 
-    go : (r : Placed) → placed candidate new s ≡ r → InsertionSays n s m e (answerBytes (placedAnswer r))
+    go : (r : Placed) → placed candidate new s ≡ r → InsertionSays n (map placeIn s) m e (answerBytes (placedAnswer r))
     go Done f = record {
       displaced = (λ z. absurd (omega arith), λ z. clash (and-both _ _ (eq-eqb _ _ (z .0)) (eq-eqb _ _ (z .1))) (alike-done h new k l f .0));
       named = λ z. absurd (omega arith);
@@ -123,23 +131,17 @@ insertion-says {n} {s} {m} h new k l = go (placed candidate new s) refl
     }
     go (Displaced x) f =
         let w : DisplacedSays n new s m x = alike-displaced h new k l x f in
-        let some : 1 ≤ count unlocked m = stands-count unlocked m (entryIn x) (w .free) (w .listed) in
+        let some : 1 ≤ howMany unlocked m = rw (how-many unlocked m) (stands-count unlocked m (entryIn x) (w .free) (w .listed)) in
         record {
-          displaced = (λ z. (w .full, w .apart, some), λ z. refl);
-          named = λ z. (
-            w .index,
-            w .chosen,
-            rw (w .there) (displaced-name x (w .sound) (w .live)),
-            rw (w .there) (w .listed),
-            rw (w .there) (w .free),
-          );
+          displaced = (λ z. (w .full, how-many _ m ∙ w .apart, some), λ z. refl);
+          named = λ z. (entryIn x, displaced-way new s x f, displaced-name x (w .sound) (w .live), w .listed, w .free);
           refused = (λ z. absurd (omega (arith, answer-kind z, line-kind 5 13 0 0 0 0)), λ z. absurd (omega (arith, z .1)));
         }
     go Refused f =
         let t : lacksSlot n e m ≡ true = alike-lacks h new k l ∙ ap not (slot-had candidate new s) ∙ rw f in
         let full : length m ≡ n = eqb-true _ _ (and-left _ _ t) in
-        let locked : count unlocked m ≡ 0 = eqb-true _ _ (and-left _ _ (and-right (eqb (length m) n) _ t)) in
-        let apart : count (overlap e) m ≡ 0 = eqb-true _ _ (and-right (eqb (count unlocked m) 0) _ (and-right (eqb (length m) n) _ t)) in
+        let locked : howMany unlocked m ≡ 0 = eqb-true _ _ (and-left _ _ (and-right (eqb (length m) n) _ t)) in
+        let apart : howMany (overlap e) m ≡ 0 = eqb-true _ _ (and-right (nonePasses unlocked m) _ (and-right (eqb (length m) n) _ t)) in
         record {
           displaced = (λ z. absurd (omega arith), λ z. absurd (omega (arith, z .2)));
           named = λ z. absurd (omega arith);
@@ -203,12 +205,18 @@ module _ {n : Counts} {u : State} {l : Ledger} (h : Alike n u l) (side : ℕ) (b
       go Refused t = refl
 
 -- ---- what an access that looks up gets
+looks-past : (l : Ledger) (a : Asked) → looksUp l a ≡ true → anyOf (λ q. q .0) (earlySteps l a) ≡ false
+looks-past l a h = not-true _ (sym (none-passes (λ q. q .0) (earlySteps l a)) ∙ h)
+
 access-says : (l : Ledger) (a : Asked) (b : Bytes) → count (foundBy l a) (l .entries (askedSide a)) ≤ 1
     → b ≡ lookedUp l a (find (foundBy l a) (l .entries (askedSide a))) .bytes → AccessSays l a b
 access-says l a b one e = record {
-  one = one;
+  one = rw (how-many p m) one;
   hit = λ x s t. e ∙ ap (λ (o : Option Entry). lookedUp l a o .bytes) (find-only p m x t s one);
-  missed = (λ f. zero-by (find p m) (find-says p m) (sym f ∙ e), λ z. e ∙ ap (λ (o : Option Entry). lookedUp l a o .bytes) (find-zero p m z));
+  missed = (
+    λ f. how-many p m ∙ zero-by (find p m) (find-says p m) (sym f ∙ e),
+    λ z. e ∙ ap (λ (o : Option Entry). lookedUp l a o .bytes) (find-zero p m (sym (how-many p m) ∙ z)),
+  );
 }
   where
     m : List Entry
@@ -288,10 +296,10 @@ module _ {n : Counts} {u : State} {l : Ledger} (h : Alike n u l) where
   unfolding accesses
   access-does a s c = access-alike h a s c _ (found-alike a s c _ refl)
 
-  pub access-told : (a : Access) → a .strand < 4 → a .selector < 3 → anyOf (λ q. q .0) (earlySteps l (askedOf a)) ≡ false
+  pub access-told : (a : Access) → a .strand < 4 → a .selector < 3 → looksUp l (askedOf a) ≡ true
       → AccessSays l (askedOf a) (answerBytes (accessTo u a .answer))
   unfolding accesses
-  access-told a s c e = access-says l (askedOf a) _ (looked-one a s c) (access-does a s c .bytes ∙ ap (λ (w : Written). w .bytes) (fit-none (earlySteps l (askedOf a)) _ e))
+  access-told a s c e = access-says l (askedOf a) _ (looked-one a s c) (access-does a s c .bytes ∙ ap (λ (w : Written). w .bytes) (fit-none (earlySteps l (askedOf a)) _ (looks-past l (askedOf a) e)))
 
   -- a command that passed and is no insertion
   pub does-alike : (c : Command) → verdict u c ≡ Passed → (d : Name) → NoInsertion c → StepAlike n (act u c) (does (slotCount n) l c d)
@@ -318,3 +326,61 @@ module _ {n : Counts} {u : State} {l : Ledger} (h : Alike n u l) where
       rw (← (used-alike h strand address s)) (access-does _ s (search conj))
   does-alike (command.Read strand number) v d t = record { bytes = read-bytes h strand number v; alike = h }
   does-alike (command.Pointers strand side) v d t = record { bytes = pointers-bytes h strand side v; alike = h }
+
+-- ---- and its places
+same-side : (u : State) (side : ℕ) → SameSlots u (withSide u side (sideOf u side))
+same-side u side = by-test (eqb side 0) (λ e. rw e (refl, refl)) (λ e. rw e (refl, refl))
+
+module _ {n : Counts} {u : State} {k : Reference} (h : ReferenceAlike n u k) where
+  abbrev l : Ledger
+  l = k .ledger
+
+  demap-places : (side : ℕ) (which : Removal) (p : Entry → Bool) → side < 2 → SameTest (removes which) p
+      → PlacesAlike (demap u side which .state) (each k side (emptied p))
+  demap-places side which p b t = places-each (h .places) side b _ (emptied p) (emptied-side t (sideOf u side) (alike-side side b (h .ledger) .sound))
+
+  found-places : (a : Access) (s : a .strand < 4) (c : a .selector < 3) (f : Found) → first (answersTo (lookupKey (u .registers) a)) (sideOf u (kindSide (a .kind))) ≡ f
+      → PlacesAlike (settleFound u a f .state) (each k (kindSide (a .kind)) (marked (foundBy l (askedOf a))))
+  found-places a s c Nothing e =
+      let side : ℕ = kindSide (a .kind) in
+      let t = key-same (h .ledger) a s c in
+      let none-found = none-count _ (sideOf u side) (found-none noSlot _ (sideOf u side) (rw (key-alike (h .ledger) a s c) at e)) in
+      places-same _ (places-each (h .places) side (kind-side (a .kind)) (sideOf u side) (marked (foundBy l (askedOf a)))
+      (unmarked-side t (sideOf u side) (looked (h .ledger) a .sound) none-found)) (same-side u side)
+  found-places a s c (At i) e =
+      let side : ℕ = kindSide (a .kind) in
+      let t = key-same (h .ledger) a s c in
+      places-same _ (places-each (h .places) side (kind-side (a .kind)) (setUsed i (sideOf u side)) (marked (foundBy l (askedOf a)))
+      (marked-side t (sideOf u side) i (looked (h .ledger) a .sound)
+      (omega (arith, alike-count (looked (h .ledger) a) t, looked-one (h .ledger) a s c)) (rw (key-alike (h .ledger) a s c) at e))) (found-slots u a i)
+
+  access-places : (a : Access) → a .strand < 4 → a .selector < 3 → PlacesAlike (accessTo u a .state) (accessed k (askedOf a))
+  access-places a s c = go (prepare-alike (h .ledger) a s c)
+    where
+      go : Early n u a (prepare (u .registers) a) (earlySteps l (askedOf a)) → PlacesAlike (accessTo u a .state) (accessed k (askedOf a))
+      go (looks p past) = rw (p, none-passes (λ q. q .0) (earlySteps l (askedOf a)), past) (found-places a s c _ refl)
+      go (ends any z f) = rw (none-passes (λ q. q .0) (earlySteps l (askedOf a)), any) (places-same _ (h .places) z)
+
+  pub does-places : (c : Command) → verdict u c ≡ Passed → NoInsertion c → PlacesAlike (act u c .state) (moved (slotCount n) k c)
+  unfolding act moved asked allOf
+  does-places (command.Write strand number value) v t = places-same _ (h .places) (refl, refl)
+  does-places (command.Insert strand side flags word) v t = absurd t
+  does-places (command.DemapPage strand side selector flags address) v t =
+      let q = passed-asked u (command.DemapPage strand side selector flags address) v in
+      demap-places side _ _ (search conj) (page-same (h .ledger) strand selector flags address (search conj) (search conj) (search conj))
+  does-places (command.DemapContext strand side selector) v t =
+      let q = passed-asked u (command.DemapContext strand side selector) v in
+      demap-places side _ _ (search conj) (context-same (h .ledger) strand selector (search conj) (search conj))
+  does-places (command.DemapAll strand side) v t =
+      let q = passed-asked u (command.DemapAll strand side) v in
+      let s : strand < 4 = search conj in
+      demap-places side _ _ (search conj) (rw (h .ledger .registers strand 0 s (omega arith)) (partition-test (partition (u .registers) strand)))
+  does-places (command.Invalidate side) v t =
+      let q = passed-asked u (command.Invalidate side) v in
+      demap-places side removal.Everything (λ _. true) (search conj) everything-test
+  does-places (command.Access strand kind selector size address) v t =
+      let q = passed-asked u (command.Access strand kind selector size address) v in
+      let s : strand < 4 = search conj in
+      rw (← (used-alike (h .ledger) strand address s)) (access-places _ s (search conj))
+  does-places (command.Read strand number) v t = h .places
+  does-places (command.Pointers strand side) v t = h .places

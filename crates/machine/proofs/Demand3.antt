@@ -1,24 +1,30 @@
 -- Demand 3 is met, for any number of slots on either side. Assumes nothing.
-use Prim.Native.Nat.{ℕ, _-_, _%_, _<_}
+use Prim.Native.Nat.{ℕ, zero, suc, _+_, _*_, _-_, _/_, _%_, _<_}
 use mathlib.Core.Path.{_≡_, refl, sym, ap, ap₂, subst, _∙_}
-use mathlib.Core.Bool.{Bool, true, false}
-use mathlib.Core.List.{List, [], _∷_, _++_}
+use mathlib.Core.Bool.{Bool, true, false, not}
+use mathlib.Core.List.{List, [], _∷_, _++_, map}
 use native.Mathlib.Omega.{arith}
 use lib.Dec.{eqb}
+use lib.ListN.{length, getD, take, drop, replicate, length-append, List·getD-append}
+use lib.Seq.{ext-getD, getD-at}
 use borrow.Author.Tests.{eq-eqb, ne-eqb, eqb-true, eqb-false, leb-true, ltb-true}
-use Rattle.laws.specs.Tests.{count, allOf}
+use Rattle.laws.specs.Tests.{allOf}
 use Rattle.laws.proofs.Bools.{by-test, and-both, and-left, and-right}
 use Rattle.machine.specs.State.{Counts, slotCount, State, sideOf, stateOf, encode, reset, sideFits, sound, wordsSound}
 use Rattle.machine.specs.Pages.{inRange}
 use Rattle.machine.specs.Words.{wordSound}
-use Rattle.machine.specs.Slots.{isLive}
+use Rattle.machine.specs.Slots.{noSlot, isLive}
 use Rattle.machine.specs.Insertion.{candidate, hasSlot, placed}
 use Rattle.machine.specs.Sound.{slotSound}
+use Rattle.machine.specs.Registers.{registerWords}
 use Rattle.machine.specs.Questions.{flagLocked, insertion, asked, verdict}
 use Rattle.machine.specs.Step.{placedAnswer, act, step}
-use Rattle.machine.specs.Stream.{Bytes, answerBytes, after, answersBytes, runOf}
-use Rattle.machine.specs.Ledger.{Entry, Ledger, start, line, Written, nameIn, addressGood, wordGood, tagOf, newEntry, firstNo, questions, inserts, does, enters}
-use Rattle.machine.specs.Demand3.{entryIn, unitBytes, fed, ledgerAfter, ledgerBytes, Says, CommandsSay, commandsOf, RunSays, Event, run, EventsSay, Demand3, entriesIn, ledgerOf, Described}
+use Rattle.machine.specs.Stream.{Bytes, Taken, answerBytes, after, answersBytes, runOf}
+use Rattle.machine.specs.Ledger.{Ledger, line, Written, nameIn, addressGood, wordGood, tagOf, newEntry, firstNo, questions, lacksSlot, inserts, does, enters}
+use Rattle.machine.specs.Demand3.{unitBytes, fed, fedNext, fedAfter, ledgerBytes, Says, CommandsSay, RunSays, Event, run, EventsSay, Demand3}
+use Rattle.machine.specs.Frame.{entryIn}
+use Rattle.machine.specs.Places.{Place, empty, Reference, moved, placesAfter, referenceStart, row, referenceWords}
+use Rattle.machine.specs.Format.{Reading, ReadAs}
 use Rattle.machine.specs.declared.Slot.{Slot}
 use Rattle.machine.specs.declared.Placed.{Placed}
 use Rattle.machine.specs.declared.Refusal.the-variants as refusal
@@ -27,47 +33,50 @@ use Rattle.machine.specs.declared.Command.the-variants as command
 use Rattle.machine.specs.declared.Verdict.{Verdict}
 use Rattle.machine.specs.declared.Verdict.the-variants.{Passed, Refused}
 use Rattle.machine.proofs.Sound.{entry-live}
-use Rattle.machine.proofs.State.{sound-registers, sound-side, sound-encode, encode-state, words-sound, sound-words, passed-asked, insertion-sound}
-use Rattle.machine.proofs.Runs.{run-answered, run-words, run-front, run-past, run-reads, run-ended, run-not-one}
-use Rattle.machine.proofs.Alike.{hit, SideAlike, Alike}
-use Rattle.machine.proofs.Sides.{alike-empty}
+use Rattle.machine.proofs.State.{sound-file, sound-encode, words-sound, passed-asked, insertion-sound}
+use Rattle.machine.proofs.Runs.{commandsOf, run-answered, run-taken, run-stop, run-words, run-front, run-past}
+use Rattle.machine.proofs.Readable.{reads-taken, reads-stop}
+use Rattle.machine.proofs.Alike.{SideAlike, Alike, placeIn, PlacesAlike, ReferenceAlike}
+use Rattle.machine.proofs.Unseen.{new-used}
+use Rattle.machine.proofs.Places.{inserted-side, places-with, side-words}
+use Rattle.machine.proofs.Sides.{alike-empty, alike-lacks}
 use Rattle.machine.proofs.Questions.{verdictNumber, same-number, number-passed, number-refused, slotLeft, refused-alike, passed-alike, refused-bytes, reset-alike, tag-address, address-good, word-good, word-insertable, insertion-entry}
 use Rattle.machine.proofs.Looks.{StepAlike, used-alike}
-use Rattle.machine.proofs.Commands.{NoInsertion, does-alike, access-told, insertion-says, insert-agrees, insert-alike, insert-refused, alike-side}
+use Rattle.machine.proofs.Commands.{NoInsertion, does-alike, does-places, access-told, insertion-says, insert-agrees, insert-alike, insert-refused, alike-side}
 
 ruleset conj = (and-left, and-right, ltb-true)
 
 -- ---- one command
 -- the bytes agree, what is said of insertions and accesses holds, and the two stay alike
-pub record StepSays (n : Counts) (u : State) (l : Ledger) (c : Command) : Type 0 where
-  pub bytes : fed n u l c .bytes ≡ unitBytes u c
-  pub says : Says n u l c (unitBytes u c)
-  pub alike : Alike n (step u c .state) (fed n u l c .ledger)
+pub record StepSays (n : Counts) (u : State) (k : Reference) (c : Command) : Type 0 where
+  pub bytes : fed n u k c .bytes ≡ unitBytes u c
+  pub says : Says n k c (unitBytes u c)
+  pub alike : ReferenceAlike n (step u c .state) (fedNext n u k c)
 
 -- nothing is said of a command that 5 to 12 refuse
-says-refused : (n : Counts) (u : State) (l : Ledger) (c : Command) (b : Bytes) → (firstNo (questions l c) ≡ 0 → ⊥) → Says n u l c b
-says-refused n u l (command.Write strand number value) b e = tt
-says-refused n u l (command.Insert strand side flags word) b e = λ f. absurd (e f)
-says-refused n u l (command.DemapPage strand side selector flags address) b e = tt
-says-refused n u l (command.DemapContext strand side selector) b e = tt
-says-refused n u l (command.DemapAll strand side) b e = tt
-says-refused n u l (command.Invalidate side) b e = tt
-says-refused n u l (command.Access strand kind selector size address) b e = λ f. absurd (e f)
-says-refused n u l (command.Read strand number) b e = tt
-says-refused n u l (command.Pointers strand side) b e = tt
+says-refused : (n : Counts) (k : Reference) (c : Command) (b : Bytes) → (firstNo (questions (k .ledger) c) ≡ 0 → ⊥) → Says n k c b
+says-refused n k (command.Write strand number value) b e = tt
+says-refused n k (command.Insert strand side flags word) b e = λ f. absurd (e f)
+says-refused n k (command.DemapPage strand side selector flags address) b e = tt
+says-refused n k (command.DemapContext strand side selector) b e = tt
+says-refused n k (command.DemapAll strand side) b e = tt
+says-refused n k (command.Invalidate side) b e = tt
+says-refused n k (command.Access strand kind selector size address) b e = λ f. absurd (e f)
+says-refused n k (command.Read strand number) b e = tt
+says-refused n k (command.Pointers strand side) b e = tt
 
-step-refused : (n : Counts) (u : State) (l : Ledger) (c : Command) → Alike n u l → (firstNo (questions l c) ≡ 0 → ⊥) → StepSays n u l c
-unfolding step enters
-step-refused n u l c h e = go (verdict u c) (refused-alike h c e)
+step-refused : (n : Counts) (u : State) (k : Reference) (c : Command) → ReferenceAlike n u k → (firstNo (questions (k .ledger) c) ≡ 0 → ⊥) → StepSays n u k c
+unfolding step enters placesAfter
+step-refused n u k c h e = go (verdict u c) (refused-alike (h .ledger) c e)
   where
-    go : (v : Verdict) → verdictNumber v ≡ firstNo (questions l c) → StepSays n u l c
+    go : (v : Verdict) → verdictNumber v ≡ firstNo (questions (k .ledger) c) → StepSays n u k c
     go Passed f = absurd (e (sym f))
     go (Refused r) f =
-        let v : verdict u c ≡ Refused r = same-number (verdict u c) (Refused r) (refused-alike h c e ∙ sym f) in
-        let t : eqb (firstNo (questions l c)) 0 ≡ false = ne-eqb _ 0 e in
+        let v : verdict u c ≡ Refused r = same-number (verdict u c) (Refused r) (refused-alike (h .ledger) c e ∙ sym f) in
+        let t : eqb (firstNo (questions (k .ledger) c)) 0 ≡ false = ne-eqb _ 0 e in
         record {
-          bytes = rw (v, t) (ap (λ (k : ℕ). line 5 k 0 0 0 0) (sym f) ∙ sym (refused-bytes r));
-          says = says-refused n u l c _ e;
+          bytes = rw (v, t) (ap (λ (i : ℕ). line 5 i 0 0 0 0) (sym f) ∙ sym (refused-bytes r));
+          says = says-refused n k c _ e;
           alike = rw (v, t) h;
         }
 
@@ -75,18 +84,18 @@ step-refused n u l c h e = go (verdict u c) (refused-alike h c e)
 passed : {n : Counts} {u : State} {l : Ledger} → Alike n u l → (c : Command) → slotLeft u c ≡ true → firstNo (questions l c) ≡ 0 → verdict u c ≡ Passed
 passed {u} h c f e = number-passed (verdict u c) (passed-alike h c e ∙ rw f)
 
-step-passed : {n : Counts} {u : State} {l : Ledger} (c : Command) → verdict u c ≡ Passed → firstNo (questions l c) ≡ 0
-    → StepAlike n (act u c) (does (slotCount n) l c (nameIn (unitBytes u c)))
-    → (Says n u l c (unitBytes u c)) → StepSays n u l c
-unfolding step enters
-step-passed c v e s y = record {
+step-passed : {n : Counts} {u : State} {k : Reference} (c : Command) → verdict u c ≡ Passed → firstNo (questions (k .ledger) c) ≡ 0
+    → StepAlike n (act u c) (does (slotCount n) (k .ledger) c (nameIn (unitBytes u c))) → PlacesAlike (act u c .state) (moved (slotCount n) k c)
+    → (Says n k c (unitBytes u c)) → StepSays n u k c
+unfolding step enters placesAfter
+step-passed c v e s p y = record {
   bytes = rw (v, e) (sym (rw v at (s .bytes)));
   says = y;
-  alike = rw (v, e) (rw v at (s .alike));
+  alike = record { ledger = rw (v, e) (rw v at (s .alike)); places = rw (v, e) p };
 }
 
 -- what is said of one that is no insertion
-says-passed : {n : Counts} {u : State} {l : Ledger} → Alike n u l → (c : Command) → NoInsertion c → verdict u c ≡ Passed → Says n u l c (answerBytes (act u c .answer))
+says-passed : {n : Counts} {u : State} {k : Reference} → ReferenceAlike n u k → (c : Command) → NoInsertion c → verdict u c ≡ Passed → Says n k c (answerBytes (act u c .answer))
 unfolding act asked allOf
 says-passed h (command.Write strand number value) t v = tt
 says-passed h (command.Insert strand side flags word) t v = absurd t
@@ -97,16 +106,16 @@ says-passed h (command.Invalidate side) t v = tt
 says-passed {u} h (command.Access strand kind selector size address) t v =
     let q = passed-asked u (command.Access strand kind selector size address) v in
     let s : strand < 4 = search conj in
-    rw (← (used-alike h strand address s)) (λ _. access-told h _ s (search conj))
+    rw (← (used-alike (h .ledger) strand address s)) (λ _. access-told (h .ledger) _ s (search conj))
 says-passed h (command.Read strand number) t v = tt
 says-passed h (command.Pointers strand side) t v = tt
 
 -- one that passed and is no insertion
-step-plain : {n : Counts} {u : State} {l : Ledger} → Alike n u l → (c : Command) → NoInsertion c → slotLeft u c ≡ true → firstNo (questions l c) ≡ 0 → StepSays n u l c
+step-plain : {n : Counts} {u : State} {k : Reference} → ReferenceAlike n u k → (c : Command) → NoInsertion c → slotLeft u c ≡ true → firstNo (questions (k .ledger) c) ≡ 0 → StepSays n u k c
 unfolding step
 step-plain {u} h c t f e =
-    let v = passed h c f e in
-    step-passed c v e (does-alike h c v _ t) (rw v (says-passed h c t v))
+    let v = passed (h .ledger) c f e in
+    step-passed c v e (does-alike (h .ledger) c v _ t) (does-places h c v t) (rw v (says-passed h c t v))
 
 -- ---- an insertion that 5 to 12 do not refuse
 first-fine : (k : ℕ) (b : Bool) (qs : List (ℕ × Bool)) → (k ≡ 0 → ⊥) → firstNo ((k, b) ∷ qs) ≡ 0 → (b ≡ true) × (firstNo qs ≡ 0)
@@ -137,8 +146,14 @@ asked-12 l strand side flags word e =
       words = first-fine 12 _ _ (λ z. omega arith) (d .1) .0;
     }
 
-module _ {n : Counts} {u : State} {l : Ledger} (h : Alike n u l) (strand side flags word : ℕ)
-    (e : firstNo (questions l (command.Insert strand side flags word)) ≡ 0) where
+module _ {n : Counts} {u : State} {k : Reference} (a : ReferenceAlike n u k) (strand side flags word : ℕ)
+    (e : firstNo (questions (k .ledger) (command.Insert strand side flags word)) ≡ 0) where
+  abbrev l : Ledger
+  l = k .ledger
+
+  h : Alike n u l
+  h = a .ledger
+
   abbrev c : Command
   c = command.Insert strand side flags word
 
@@ -180,7 +195,7 @@ module _ {n : Counts} {u : State} {l : Ledger} (h : Alike n u l) (strand side fl
       (λ t. rw (lacked t, insert-refused h side (q .sides) new new-sound new-live t .0))
 
   -- and what the ledger does with it
-  ledger-does : fed n u l c ≡ inserts (slotCount n side) l side (entryIn new) (nameIn (answerBytes (placedAnswer told)))
+  ledger-does : fed n u k c ≡ inserts (slotCount n side) l side (entryIn new) (nameIn (answerBytes (placedAnswer told)))
   unfolding enters does
   ledger-does = rw (e, unit-answer, same-entry)
 
@@ -190,17 +205,28 @@ module _ {n : Counts} {u : State} {l : Ledger} (h : Alike n u l) (strand side fl
       (λ t. rw (had t) (insert-alike h side (q .sides) new new-sound new-live t))
       (λ t. rw (lacked t, insert-refused h side (q .sides) new new-sound new-live t .1) h)
 
-  step-insert : StepSays n u l c
+  after-places : PlacesAlike (step u c .state) (placesAfter (slotCount n) k c)
+  unfolding step act placesAfter moved
+  after-places =
+      let lacks : lacksSlot (slotCount n side) (newEntry l strand side flags word) (l .entries side) ≡ not (hasSlot candidate new (sideOf u side)) =
+      rw (← same-entry) (alike-lacks (alike-side side (q .sides) h) new new-sound new-live) in
+      by-test (hasSlot candidate new (sideOf u side))
+      (λ t. rw (e, had t, lacks, t, ← same-entry, a .places .at side (q .sides))
+      (places-with (a .places) side (q .sides) _
+      (inserted-side new new-sound new-live (new-used _ (flagLocked flags) word) (sideOf u side) (alike-side side (q .sides) h .sound) t)))
+      (λ t. rw (e, lacked t, lacks, t) (a .places))
+
+  step-insert : StepSays n u k c
   step-insert = record {
     bytes = ap (λ (w : Written). w .bytes) ledger-does ∙ insert-agrees h side (q .sides) new new-sound new-live told refl .0 ∙ sym unit-answer;
-    says = λ _. rw (unit-answer, ← same-entry) (insertion-says (alike-side side (q .sides) h) new new-sound new-live);
-    alike = subst (λ (w : Written). Alike n (step u c .state) (w .ledger)) (sym ledger-does) after-step;
+    says = λ _. rw (unit-answer, ← same-entry, a .places .at side (q .sides)) (insertion-says (alike-side side (q .sides) h) new new-sound new-live);
+    alike = record { ledger = subst (λ (w : Written). Alike n (step u c .state) (w .ledger)) (sym ledger-does) after-step; places = after-places };
   }
 
-step-says : (n : Counts) (u : State) (l : Ledger) (c : Command) → Alike n u l → StepSays n u l c
-step-says n u l c h = by-test (eqb (firstNo (questions l c)) 0) (λ t. by-command c (eqb-true _ 0 t)) (λ t. step-refused n u l c h (eqb-false _ 0 t))
+pub step-says : (n : Counts) (u : State) (k : Reference) (c : Command) → ReferenceAlike n u k → StepSays n u k c
+step-says n u k c h = by-test (eqb (firstNo (questions (k .ledger) c)) 0) (λ t. by-command c (eqb-true _ 0 t)) (λ t. step-refused n u k c h (eqb-false _ 0 t))
   where
-    by-command : (c : Command) → firstNo (questions l c) ≡ 0 → StepSays n u l c
+    by-command : (c : Command) → firstNo (questions (k .ledger) c) ≡ 0 → StepSays n u k c
     by-command (command.Write strand number value) e = step-plain h (command.Write strand number value) tt refl e
     by-command (command.Insert strand side flags word) e = step-insert h strand side flags word e
     by-command (command.DemapPage strand side selector flags address) e = step-plain h (command.DemapPage strand side selector flags address) tt refl e
@@ -221,79 +247,120 @@ unfolding sound
 alike-sound n u l h = and-both _ _ (h .allowed) (and-both _ _ (side-fits (h .itlb)) (side-fits (h .dtlb)))
 
 -- ---- a list of commands
-pub record Agrees (n : Counts) (u : State) (l : Ledger) (cs : List Command) : Type 0 where
-  pub say : CommandsSay n u l cs
-  pub bytes : ledgerBytes n u l cs ≡ answersBytes u cs
-  pub alike : Alike n (after u cs) (ledgerAfter n u l cs)
+-- the words of a state and of the book beside it
+pub row-length : (f : ℕ → ℕ) (n : ℕ) → length (row f n) ≡ n
+unfolding row
+row-length f zero = refl
+row-length f (suc n) = length-append (row f n) _ ∙ omega (arith, row-length f n)
 
-commands-agree : (n : Counts) (u : State) (l : Ledger) (cs : List Command) → Alike n u l → Agrees n u l cs
-unfolding ledgerBytes answersBytes ledgerAfter after
-commands-agree n u l [] h = record { say = tt; bytes = refl; alike = h }
-commands-agree n u l (c ∷ cs) h =
-    let s = step-says n u l c h in
-    let r = commands-agree n (step u c .state) (fed n u l c .ledger) cs (s .alike) in
+pub row-at : (f : ℕ → ℕ) (n i : ℕ) → i < n → getD (row f n) i 0 ≡ f i
+unfolding row
+row-at f zero i h = absurd (omega arith)
+row-at f (suc n) i h = by-test (eqb i n)
+    (λ e. rw (eqb-true i n e) (getD-at (row f n) (f n) [] 0 n (row-length f n)))
+    (λ e. let l : i < n = omega (arith, eqb-false i n e) in List·getD-append (row f n) (f n ∷ []) 0 i (rw (row-length f n) l) ∙ row-at f n i l)
+
+pub alike-words : {n : Counts} {u : State} {k : Reference} → ReferenceAlike n u k → encode u ≡ referenceWords k
+unfolding encode referenceWords
+alike-words {u} {k} h =
+    let file : u .registers ≡ row (λ i. k .ledger .registers (i / 32) (i % 32)) 128 =
+    ext-getD 0 (u .registers) _ (size ∙ sym (row-length _ 128)) (λ i c.
+    let small : i < 128 = omega (arith, size) in
+    let whole : i / 32 * 32 + i % 32 ≡ i = omega arith in
+    ap (λ j. getD (u .registers) j 0) (sym whole) ∙ sym (h .ledger .registers (i / 32) (i % 32) (omega arith) (omega arith)) ∙ sym (row-at _ 128 i small)) in
+    rw (
+      h .places .at 0 (omega arith),
+      h .places .at 1 (omega arith),
+      ← file,
+      side-words (u .itlb) (h .ledger .itlb .sound),
+      side-words (u .dtlb) (h .ledger .dtlb .sound),
+    )
+  where
+    size : length (u .registers) ≡ registerWords
+    size = sound-file (u .registers) (h .ledger .allowed)
+
+pub record Agrees (n : Counts) (u : State) (k : Reference) (cs : List Command) : Type 0 where
+  pub say : CommandsSay n u k cs
+  pub bytes : ledgerBytes n u k cs ≡ answersBytes u cs
+  pub alike : ReferenceAlike n (after u cs) (fedAfter n u k cs)
+
+pub commands-agree : (n : Counts) (u : State) (k : Reference) (cs : List Command) → ReferenceAlike n u k → Agrees n u k cs
+unfolding ledgerBytes answersBytes fedAfter after
+commands-agree n u k [] h = record { say = alike-words h; bytes = refl; alike = h }
+commands-agree n u k (c ∷ cs) h =
+    let s = step-says n u k c h in
+    let r = commands-agree n (step u c .state) (fedNext n u k c) cs (s .alike) in
     record {
-      say = (s .bytes, s .says, r .say);
+      say = (alike-words h, s .bytes, s .says, r .say);
       bytes = ap₂ (λ (a b : Bytes). a ++ b) (s .bytes) (r .bytes);
       alike = r .alike;
     }
 
 -- ---- a run
-run-says : (n : Counts) (words : List ℕ) (l : Ledger) (input output : Bytes) → wordsSound n words ≡ true → Alike n (stateOf n words) l
-    → RunSays n words l input output
-run-says n words l input output w h =
-    let r = commands-agree n (stateOf n words) l (commandsOf input output) h in
-    record {
-      sound = run-not-one n words input output w;
-      reads = run-reads n words input output w;
-      ended = run-ended n words input output w;
-      answered = run-answered n words input output w;
-      front = run-front n words input output w ∙ sym (r .bytes);
-      past = run-past n words input output w;
-      commands = r .say;
-    }
+module _ (n : Counts) (words : List ℕ) (input output : Bytes) (w : wordsSound n words ≡ true) (t : Reading) (x : ReadAs input (length output) t) where
+  abbrev cs : List Command
+  cs = t .commands
 
--- ---- every list of runs, from any state that a ledger describes
-events-say : (n : Counts) (es : List Event) (u : State) (l : Ledger) → Alike n u l → EventsSay n (encode u) l es
-events-say n [] u l h = tt
-events-say n (run input output ∷ es) u l h =
-    let s : sound n u ≡ true = alike-sound n u l h in
+  -- what it takes is what is read
+  same-commands : commandsOf input output ≡ cs
+  same-commands = ap (λ (y : Taken). y .commands) (reads-taken input (length output) x)
+
+  pub read-words : runOf n words input output .words ≡ encode (after (stateOf n words) cs)
+  read-words = rw same-commands at (run-words n words input output w)
+
+  pub read-answered : runOf n words input output .answered ≡ length cs
+  read-answered = rw same-commands at (run-answered n words input output w)
+
+  pub read-taken : runOf n words input output .taken ≡ length input - length (t .rest)
+  read-taken = run-taken n words input output w ∙ ap (λ (y : Taken). y .width) (reads-taken input (length output) x)
+
+  pub read-stop : runOf n words input output .stop ≡ t .stop
+  read-stop = run-stop n words input output w ∙ ap (λ (y : Taken). y .stop) (reads-taken input (length output) x)
+
+  pub read-front : take (length cs * 24) (runOf n words input output .output) ≡ answersBytes (stateOf n words) cs
+  read-front = rw (read-answered, same-commands) at (run-front n words input output w)
+
+  pub read-past : drop (length cs * 24) (runOf n words input output .output) ≡ drop (length cs * 24) output
+  read-past = rw read-answered at (run-past n words input output w)
+
+  run-says : (k : Reference) → ReferenceAlike n (stateOf n words) k → RunSays n words k input output t
+  run-says k h =
+      let r = commands-agree n (stateOf n words) k cs h in
+      record {
+        sound = λ e. reads-stop x (sym read-stop ∙ e);
+        stop = read-stop;
+        taken = read-taken;
+        answered = read-answered;
+        front = read-front ∙ sym (r .bytes);
+        past = read-past;
+        commands = r .say;
+      }
+
+-- ---- every list of runs, from any state that a reference describes
+pub events-say : (n : Counts) (es : List Event) (u : State) (k : Reference) → ReferenceAlike n u k → EventsSay n (encode u) k es
+events-say n [] u k h = alike-words h
+events-say n (run input output ∷ es) u k h =
+    let s : sound n u ≡ true = alike-sound n u (k .ledger) (h .ledger) in
     let back : stateOf n (encode u) ≡ u = sound-encode n u s in
     let w : wordsSound n (encode u) ≡ true = words-sound n u s in
-    let h' : Alike n (stateOf n (encode u)) l = rw back h in
-    let cs : List Command = commandsOf input output in
-    let r = commands-agree n (stateOf n (encode u)) l cs h' in
-    let next : runOf n (encode u) input output .words ≡ encode (after (stateOf n (encode u)) cs) = run-words n (encode u) input output w in (
-      run-says n (encode u) l input output w h',
-      rw next (events-say n es (after (stateOf n (encode u)) cs) (ledgerAfter n (stateOf n (encode u)) l cs) (r .alike)),
+    let h' : ReferenceAlike n (stateOf n (encode u)) k = rw back h in (
+      alike-words h,
+      λ t x.
+          let r = commands-agree n (stateOf n (encode u)) k (t .commands) h' in
+          (run-says n (encode u) input output w t x k h', rw (read-words n (encode u) input output w t x) (events-say n es _ _ (r .alike))),
     )
+
+pub start-alike : (n : Counts) → ReferenceAlike n (reset n) (referenceStart (slotCount n))
+unfolding reset
+start-alike n = record {
+  ledger = reset-alike n (alike-empty (n .itlb)) (alike-empty (n .dtlb));
+  places = record { at = λ side b. by-test (eqb side 0) (λ e. rw e (none (n .itlb))) (λ e. rw e (none (n .dtlb))) };
+}
+  where
+    none : (m : ℕ) → replicate m empty ≡ map placeIn (replicate m noSlot)
+    none zero = refl
+    none (suc m) = ap (λ (r : List Place). empty ∷ r) (none m)
 
 pub demand3 : (n : Counts) → Demand3 n
 unfolding Demand3
-demand3 n es = events-say n es (reset n) start (reset-alike n (alike-empty (n .itlb)) (alike-empty (n .dtlb)))
-
--- ---- from any state
-entries-same : (p : Entry → Bool) (s : List Slot) → count (hit p) s ≡ count p (entriesIn s)
-unfolding count entriesIn
-entries-same p [] = refl
-entries-same p (x ∷ r) = by-test (isLive x) (λ e. rw (e, entries-same p r)) (λ e. rw e (omega (arith, entries-same p r)))
-
--- a sound state and its ledger
-state-alike : (n : Counts) (u : State) → sound n u ≡ true → Alike n u (ledgerOf u)
-state-alike n u h = record { allowed = sound-registers n u h; registers = λ strand number s k. refl; itlb = side 0; dtlb = side 1 }
-  where
-    side : (k : ℕ) → SideAlike (slotCount n k) (sideOf u k) (entriesIn (sideOf u k))
-    side k = record { size = sound-side n u h k .0; sound = sound-side n u h k .1; same = λ p. entries-same p (sideOf u k) }
-
--- words that are not sound stop with 1
-unsound-stops : (n : Counts) (words : List ℕ) (input output : Bytes) → wordsSound n words ≡ false → runOf n words input output .stop ≡ 1
-unfolding runOf
-unsound-stops n words input output e = rw e
-
-pub described : Described
-described = record {
-  sound = λ n words w es.
-      let (s, l) = sound-words n words w in
-      rw (encode-state n words l) at (events-say n es (stateOf n words) (ledgerOf (stateOf n words)) (state-alike n (stateOf n words) s));
-  only = λ n words l h. by-test (wordsSound n words) (λ e. e) (λ e. absurd (h (run [] [] ∷ []) .0 .sound (unsound-stops n words [] [] e)));
-}
+demand3 n es = events-say n es (reset n) (referenceStart (slotCount n)) (start-alike n)

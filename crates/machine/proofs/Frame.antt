@@ -19,7 +19,7 @@ use Rattle.laws.proofs.Counts.{count-at, none-count}
 use Rattle.laws.proofs.Finds.{count-index}
 use Rattle.machine.specs.Pages.{inRange}
 use Rattle.machine.specs.Words.{wordInsertable}
-use Rattle.machine.specs.Slots.{noSlot, isLive, partitionOf, keyOwner, answersTo, setUsed}
+use Rattle.machine.specs.Slots.{noSlot, isLive, partitionOf, keyOwner, answersTo, withUsed, setUsed}
 use Rattle.machine.specs.Insertion.{overlaps, removed, removes, isEmpty, candidate, entryOf, inserted, placed}
 use Rattle.machine.specs.Sound.{slotSound, sideSound}
 use Rattle.machine.specs.Registers.{partition, tagAccess, tagAddress}
@@ -34,7 +34,7 @@ use Rattle.machine.specs.declared.Judged.the-variants as judged
 use Rattle.machine.specs.Step.{act, stepBy, step}
 use Rattle.machine.specs.Stream.{after}
 use Rattle.machine.specs.Ledger.{Entry, overlap, unlocked, isAt, inContext, inPartition}
-use Rattle.machine.specs.Demand3.{entryIn}
+use Rattle.machine.specs.Frame.{entryIn}
 use Rattle.machine.specs.Frame.{LivesIn, Lives, Removes, invalidated, overlapped, demappedPage, demappedContext, demappedAll, displaced, Spares}
 use Rattle.machine.specs.declared.Slot.{Slot}
 use Rattle.machine.specs.declared.Placed.{Placed}
@@ -79,7 +79,7 @@ module _ (s : List Slot) (e : Entry) (h : LivesIn s e) where
   pub used-frame : (i : ℕ) → LivesIn (setUsed i s) e
   used-frame i =
       let c : count (hit (sameEntry e)) (setUsed i s) ≡ count (hit (sameEntry e)) s =
-      count-set-used (hit (sameEntry e)) (λ x. let used : (x .flags % 2 + 2) % 2 ≡ x .flags % 2 = omega arith in rw used) s i in
+      count-set-used (hit (sameEntry e)) (λ x. let used : withUsed x .flags % 2 ≡ x .flags % 2 = omega arith in rw used) s i in
       count-lives (setUsed i s) e (omega (arith, lives-count (hit (sameEntry e)) lives-same))
 
   module _ (k : sideSound s ≡ true) where

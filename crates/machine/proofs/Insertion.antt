@@ -1,6 +1,6 @@
 -- Laws of overlap, removal and insertion on the slots of one side: any number of slots, any test for candidates.
 -- Assumes nothing.
-use Prim.Native.Nat.{ℕ, zero, suc, _+_, _/_, _%_, _≤_, _<_}
+use Prim.Native.Nat.{ℕ, zero, suc, _+_, _≤_, _<_}
 use mathlib.Core.Path.{_≡_, refl, ap, sym, _∙_}
 use mathlib.Core.Bool.{Bool, true, false, not, _&&_, _||_, or-true, or-false, or-assoc}
 use mathlib.Core.List.{List, [], _∷_}
@@ -9,12 +9,12 @@ use native.Mathlib.Nat.{le-of-lt}
 use native.Mathlib.Omega.{arith}
 use lib.Dec.{leb}
 use lib.ListN.{length, getD, set, length-map, length-set, List·getD-map}
-use borrow.Author.Tests.{eq-eqb, eqb-true, leb-true, leb-false, ne-eqb, not-true}
+use borrow.Author.Tests.{eq-eqb, eqb-true, leb-true, leb-false, not-true}
 use Rattle.laws.specs.Tests.{tick, count, anyOf, pairwise, first}
 use Rattle.laws.specs.declared.Found.{Found}
 use Rattle.laws.specs.declared.Found.the-variants.{At, Nothing}
 use Rattle.laws.proofs.Bools.{by-test, both-ways, clash, and-left, and-right, and-no, or-left, or-right, or-other, or-comm}
-use Rattle.laws.proofs.Counts.{count-set, count-map, count-same, count-none, count-one}
+use Rattle.laws.proofs.Counts.{count-set, count-map, count-same, count-one}
 use Rattle.laws.proofs.Walks.{any-at, found-at, found-none}
 use Rattle.machine.specs.Pages.{pageShift, pageStart}
 use Rattle.machine.specs.Slots.{noSlot, isLive, sizeCode, isUsed, keyOwner, keyAddress, holds, answersTo, withUsed, withoutUsed, setUsed, clearUsed}
@@ -249,20 +249,6 @@ module _ (cand : Slot → Bool) (new : Slot) (s : List Slot) where
       apart e (Unused i) f h = record { full = h .0; apart = e; allowed = h .2; index = i; within = h .1; there = refl; chosen = inl (f, h .3) }
       apart e (Cleared i) f h = record { full = h .0; apart = e; allowed = h .3; index = i; within = h .2; there = refl; chosen = inr (f, h .1) }
       apart e Full f h = (h .0, h .1, e)
-
--- after a displacement that clears the used bits, at most the new entry is used
-pub cleared-used : (cand : Slot → Bool) (new : Slot) (s : List Slot) (i : ℕ) → anyOf (overlaps new) s ≡ false → choice cand s ≡ Cleared i
-    → count isUsed (inserted cand new s) ≡ tick (isUsed new)
-unfolding inserted
-cleared-used cand new s i e f =
-    let h : Chosen cand s (Cleared i) = rw f at (choice-says cand s) in
-    let none : count isUsed (clearUsed s) ≡ 0 = count-map isUsed withoutUsed s ∙ count-none _ s unused in
-    let one : count isUsed (set (clearUsed s) i new) ≡ tick (isUsed new) =
-    omega (arith, count-cleared isUsed s i new (h .2), ap tick (unused (getD s i noSlot))) in
-    rw (removed-none (overlaps new) s e, f) one
-  where
-    unused : (x : Slot) → isUsed (withoutUsed x) ≡ false
-    unused x = ne-eqb (x .flags % 2 / 2 % 2) 1 (λ e. omega arith)
 
 pub length-inserted : (cand : Slot → Bool) (new : Slot) (s : List Slot) → length (inserted cand new s) ≡ length s
 unfolding inserted

@@ -2,7 +2,7 @@
 -- Assumes nothing.
 use Prim.Native.Nat.{ℕ, _+_, _*_, _-_, _/_, _%_, _^_, _≤_, _<_}
 use mathlib.Core.Path.{_≡_, refl, ap, sym, _∙_}
-use mathlib.Core.Bool.{Bool, true, false, not, _&&_, _||_, and-comm, and-false}
+use mathlib.Core.Bool.{Bool, true, false, not, cond, _&&_, _||_, and-comm, and-false}
 use mathlib.Core.List.{List, [], _∷_}
 use native.Mathlib.Omega.{arith}
 use native.Mathlib.Nat.{one-mul}
@@ -10,7 +10,7 @@ use lib.Dec.{eqb, ltb, leb}
 use lib.Pow.{split}
 use lib.ListN.{getD}
 use borrow.Author.Tests.{eq-eqb, eqb-true, eqb-false, ne-eqb, lt-ltb, le-ltb, lt-leb, ltb-true}
-use Rattle.laws.specs.Tests.{pick, tick, anyOf}
+use Rattle.laws.specs.Tests.{tick, anyOf}
 use Rattle.laws.specs.declared.Found.the-variants.{Nothing}
 use Rattle.laws.proofs.Bools.{by-test, clash, and-left, and-right, or-left, or-right}
 use Rattle.machine.specs.Pages.{listed, pageShift}
@@ -32,6 +32,7 @@ use Rattle.machine.specs.declared.Translation.{Translation}
 use Rattle.machine.specs.declared.Answer.the-variants as answer
 use Rattle.machine.specs.declared.Trap.{Trap}
 use Rattle.machine.specs.declared.Trap.the-variants as trap
+use Rattle.machine.proofs.Unseen.{SameSlots}
 use Rattle.machine.proofs.Alike.{Alike}
 use Rattle.machine.proofs.Questions.{address-good, code-bytes, context-picked, alike-registers}
 use Rattle.machine.proofs.Bytes.{line-answer}
@@ -63,20 +64,20 @@ tag-alike address context = omega arith
 
 -- ---- fault types
 -- a bit that weighs w where a test holds
-weighed : (b t : Bool) {y : ℕ} (w : ℕ) → y ≡ tick t → pick (b && t) w 0 ≡ pick b (w * y) 0
+weighed : (b t : Bool) {y : ℕ} (w : ℕ) → y ≡ tick t → cond (b && t) w 0 ≡ cond b (w * y) 0
 weighed true true w e = rw e (omega arith)
 weighed true false w e = rw e (omega arith)
 weighed false t w e = refl
 
-pick-not : (b : Bool) (x y : ℕ) → pick (not b) x y ≡ pick b y x
-pick-not true x y = refl
-pick-not false x y = refl
+cond-not : (b : Bool) (x y : ℕ) → cond (not b) x y ≡ cond b y x
+cond-not true x y = refl
+cond-not false x y = refl
 
-weigh-small : (b : Bool) (w : ℕ) → pick b w 0 ≤ w
+weigh-small : (b : Bool) (w : ℕ) → cond b w 0 ≤ w
 weigh-small true w = omega arith
 weigh-small false w = omega arith
 
-bit-set : (x : ℕ) → x < 2 → x ≡ tick (eqb x 1)
+pub bit-set : (x : ℕ) → x < 2 → x ≡ tick (eqb x 1)
 bit-set x h = by-test (eqb x 1) (λ e. rw e (eqb-true x 1 e)) (λ e. rw e (omega (arith, eqb-false x 1 e)))
 
 bit-clear : (x : ℕ) → x < 2 → 1 - x ≡ tick (eqb x 0)
@@ -84,10 +85,10 @@ bit-clear x h = by-test (eqb x 0) (λ e. rw e (omega (arith, eqb-true x 0 e))) (
 
 -- the two sums
 pub fault-alike : (mode kind word : ℕ) → faultType mode kind word
-    ≡ pick (eqb mode 0) (bit 8 word) 0
-    + pick (eqb kind 4) (2 * bit 11 word) 0
-    + pick (eqb kind 3) (4 * (1 - bit 10 word)) 0
-    + pick (eqb kind 4) 0 (0x10 * bit 62 word)
+    ≡ cond (eqb mode 0) (bit 8 word) 0
+    + cond (eqb kind 4) (2 * bit 11 word) 0
+    + cond (eqb kind 3) (4 * (1 - bit 10 word)) 0
+    + cond (eqb kind 4) 0 (0x10 * bit 62 word)
 unfolding faultType
 fault-alike mode kind word =
     let set : (k : ℕ) → bit k word ≡ tick (eqb (bit k word) 1) = λ k. bit-set (bit k word) (omega arith) in
@@ -98,7 +99,7 @@ fault-alike mode kind word =
       weighed (eqb kind 4) (eqb (bit 11 word) 1) 2 (set 11),
       weighed (eqb kind 3) (eqb (bit 10 word) 0) 4 (bit-clear (bit 10 word) (omega arith)),
       weighed (not (eqb kind 4)) (eqb (bit 62 word) 1) 0x10 (set 62),
-      pick-not (eqb kind 4),
+      cond-not (eqb kind 4),
       one-mul,
     )
 
@@ -116,15 +117,15 @@ fault-small mode kind word =
 
 -- ---- traps
 -- the number and fault type of an access exception
-pub exception-number : (kind fault : ℕ) → trapNumber (exception kind fault) ≡ pick (eqb kind 0) 0x08 0x30
+pub exception-number : (kind fault : ℕ) → trapNumber (exception kind fault) ≡ cond (eqb kind 0) 0x08 0x30
 exception-number kind fault = by-test (eqb kind 0) (λ e. rw e) (λ e. rw e)
 
 pub exception-fault : (kind fault : ℕ) → trapFault (exception kind fault) ≡ fault
 exception-fault kind fault = by-test (eqb kind 0) (λ e. rw e) (λ e. rw e)
 
 -- the number of a miss
-miss-trap : (on fetch : Bool) → (let t : Trap = pick on (pick fetch trap.InstructionMiss trap.DataMiss) (pick fetch trap.InstructionRealMiss trap.DataRealMiss) in
-    (trapNumber t ≡ pick fetch (pick on 0x64 0x3E) (pick on 0x68 0x3F)) × (trapFault t ≡ 0))
+miss-trap : (on fetch : Bool) → (let t : Trap = cond on (cond fetch trap.InstructionMiss trap.DataMiss) (cond fetch trap.InstructionRealMiss trap.DataRealMiss) in
+    (trapNumber t ≡ cond fetch (cond on 0x64 0x3E) (cond on 0x68 0x3F)) × (trapFault t ≡ 0))
 miss-trap true true = (refl, refl)
 miss-trap true false = (refl, refl)
 miss-trap false true = (refl, refl)
@@ -147,7 +148,7 @@ physical-told : (p : Translation) → p .attributes < 256 → answerBytes (answe
 unfolding answerBytes
 physical-told p h = line-answer 1 (p .address .0) 0 h (omega arith) (omega arith)
 
-bypass-small : (b : Bool) → pick b 1 2 < 256
+bypass-small : (b : Bool) → cond b 1 2 < 256
 bypass-small true = omega arith
 bypass-small false = omega arith
 
@@ -180,10 +181,10 @@ trapOf l b number type (effect.Written context) =
     let tag : ℕ = b .used - b .used % 8192 + context in
     answers (writes (faults l b number type) (b .strand) (20 + askedSide b) tag) (line 2 number type 0 (b .used) tag)
 
--- an access before the lookup: both go on to it, or both have ended alike
+-- an access before the lookup: both go on to it, or both have ended alike and left the slots
 pub data Early (n : Counts) (u : State) (a : Access) (p : Prepared) (ss : List (Bool × Written)) : Type 0 where
   looks : p ≡ prepared.Lookup (lookupKey (u .registers) a) → anyOf (λ q. q .0) ss ≡ false → Early n u a p ss
-  ends : anyOf (λ q. q .0) ss ≡ true → ((last : Written) → StepAlike n (settle u a p) (firstFit ss last)) → Early n u a p ss
+  ends : anyOf (λ q. q .0) ss ≡ true → SameSlots (settle u a p .state) u → ((last : Written) → StepAlike n (settle u a p) (firstFit ss last)) → Early n u a p ss
 
 -- where no step ends the access, the last does
 pub fit-none : (ss : List (Bool × Written)) (last : Written) → anyOf (λ q. q .0) ss ≡ false → firstFit ss last ≡ last
@@ -270,11 +271,11 @@ module _ {n : Counts} {u : State} {l : Ledger} (k : Alike n u l) (a : Access) (s
   -- ---- before the lookup
   -- one step more in front
   early-next : (b : Bool) (p : Prepared) {p' : Prepared} {b' : Bool} {w : Written} {ss : List (Bool × Written)} → b' ≡ b
-      → StepAlike n (settle u a p) w → Early n u a p' ss → Early n u a (pick b p p') ((b', w) ∷ ss)
+      → SameSlots (settle u a p .state) u → StepAlike n (settle u a p) w → Early n u a p' ss → Early n u a (cond b p p') ((b', w) ∷ ss)
   unfolding anyOf firstFit
-  early-next true p e j r = rw e (ends refl (λ last. j))
-  early-next false p e j (looks q none) = rw e (looks q none)
-  early-next false p e j (ends any f) = rw e (ends any f)
+  early-next true p e z j r = rw e (ends refl z (λ last. j))
+  early-next false p e z j (looks q none) = rw e (looks q none)
+  early-next false p e z j (ends any y f) = rw e (ends any y f)
 
   pub prepare-alike : Early n u a (prepare (u .registers) a) (earlySteps l (askedOf a))
   unfolding prepare earlySteps anyOf
@@ -283,11 +284,11 @@ module _ {n : Counts} {u : State} {l : Ledger} (k : Alike n u l) (a : Access) (s
       let nucleus : Bool = eqb (mode (u .registers) (a .strand)) 0 && (not (eqb (a .kind) 0) && eqb (a .selector) 2) in
       let data-nucleus : (eqb (l .registers (a .strand) 3) 0 && (eqb (kindSide (a .kind)) 1 && eqb (a .selector) 2)) ≡ nucleus =
       rw (m, data-side (a .kind)) in
-      early-next _ (prepared.Stopped trap.AddressNotAligned effect.Kept) refl (trap-alike trap.AddressNotAligned effect.Kept (omega arith))
-      (early-next nucleus (prepared.Stopped trap.PrivilegedAction effect.Kept) data-nucleus (trap-alike trap.PrivilegedAction effect.Kept (omega arith))
-      (early-next _ (prepared.Bypass (bypassTo (a .used))) (ap (λ x. eqb x 2) m)
+      early-next _ (prepared.Stopped trap.AddressNotAligned effect.Kept) refl (refl, refl) (trap-alike trap.AddressNotAligned effect.Kept (omega arith))
+      (early-next nucleus (prepared.Stopped trap.PrivilegedAction effect.Kept) data-nucleus (refl, refl) (trap-alike trap.PrivilegedAction effect.Kept (omega arith))
+      (early-next _ (prepared.Bypass (bypassTo (a .used))) (ap (λ x. eqb x 2) m) (refl, refl)
       (record { bytes = physical-told (bypassTo (a .used)) (bypass-small (eqb (bits 39 1 (a .used .0)) 0)); alike = k })
-      (early-next _ (prepared.Stopped (exception (a .kind) 0x20) (trapTag (u .registers) a)) (ap not (address-good (a .used .0)))
+      (early-next _ (prepared.Stopped (exception (a .kind) 0x20) (trapTag (u .registers) a)) (ap not (address-good (a .used .0))) (refl, refl)
       (tagged-alike (exception (a .kind) 0x20) (exception-number (a .kind) 0x20) (exception-fault (a .kind) 0x20) (omega arith))
       (looks refl refl))))
 
@@ -298,7 +299,7 @@ module _ {n : Counts} {u : State} {l : Ledger} (k : Alike n u l) (a : Access) (s
     where
       go : Early n u a (prepare (u .registers) a) (earlySteps l (askedOf a)) → StepAlike n (accessTo u a) (firstFit (earlySteps l (askedOf a)) last)
       go (looks p none) = rw (p, fit-none (earlySteps l (askedOf a)) last none) j
-      go (ends any f) = f last
+      go (ends any z f) = f last
 
   -- ---- after it
   pub miss-alike : StepAlike n (settleFound u a Nothing) (misses l (askedOf a))
@@ -335,7 +336,7 @@ miss-code : (l : Ledger) (b : Asked) → isMiss (misses l b .bytes) ≡ true
 unfolding misses taggedTrap line
 miss-code l b = numbers (translationOn l b) (eqb (b .kind) 0)
   where
-    numbers : (on fetch : Bool) → (let x : ℕ = pick fetch (pick on 0x64 0x3E) (pick on 0x68 0x3F) in leb 0x3E x && leb x 0x68) ≡ true
+    numbers : (on fetch : Bool) → (let x : ℕ = cond fetch (cond on 0x64 0x3E) (cond on 0x68 0x3F) in leb 0x3E x && leb x 0x68) ≡ true
     numbers true true = refl
     numbers true false = refl
     numbers false true = refl

@@ -1,6 +1,6 @@
 -- Document 01's printed run, by computation on the definitions: 60 bytes, five answers, all bytes taken. Assumes nothing.
 use mathlib.Core.Path.{refl}
-use Rattle.laws.specs.Tests.{allBelow, count, anyOf, allOf, pairwise, without, find, firstFrom}
+use Rattle.laws.specs.Tests.{allBelow, count, anyOf, allOf, pairwise, firstFrom}
 use Rattle.machine.specs.Pages.{inRange, listed, pageShift}
 use Rattle.machine.specs.Words.{wordSound, wordInsertable, frame, physicalAt}
 use Rattle.machine.specs.Slots.{slotsOf, wordsOf, answersTo}
@@ -15,5 +15,5 @@ use Rattle.machine.specs.Examples.{given, printed, PrintedRun}
 use Rattle.machine.specs.Stream.{eight, decodeAt, answerBytes, takes, after, answersBytes, finish, runOf}
 
 pub printed-run : PrintedRun
-unfolding PrintedRun given printed allBelow count anyOf allOf pairwise without find firstFrom inRange listed pageShift wordSound wordInsertable frame physicalAt slotsOf wordsOf answersTo overlaps removes entryOf wants choice inserted placed hasSlot ownerSound pageSound liveSound emptySound slotSound sideSound known writable baseAllowed configurationAllowed allowed registersSound resetStrands stateOf encode reset sideFits sound wordsSound asked ask verdict prepare faultType judge trapRegisters tsbOffset tsbPointer act step eight decodeAt answerBytes takes after answersBytes finish runOf
+unfolding PrintedRun given printed allBelow count anyOf allOf pairwise firstFrom inRange listed pageShift wordSound wordInsertable frame physicalAt slotsOf wordsOf answersTo overlaps removes entryOf wants choice inserted placed hasSlot ownerSound pageSound liveSound emptySound slotSound sideSound known writable baseAllowed configurationAllowed allowed registersSound resetStrands stateOf encode reset sideFits sound wordsSound asked ask verdict prepare faultType judge trapRegisters tsbOffset tsbPointer act step eight decodeAt answerBytes takes after answersBytes finish runOf
 printed-run = (refl, refl, refl, refl)

@@ -8,8 +8,8 @@ use native.Mathlib.Omega.{arith}
 use native.Mathlib.Nat.{div-add-mod', mod-eq-of-lt, mul-mod-left}
 use lib.Dec.{eqb, leb, ltb, leb·suc-suc}
 use lib.ListN.{length, getD, replicate, List·getD-eq-default}
-use borrow.Author.Tests.{eqb-true, eqb-false, leb-true, ltb-true, ltb-false, eq-eqb, ne-eqb, le-leb, lt-leb, lt-ltb}
-use Rattle.laws.specs.Tests.{pick, tick, allBelow, allOf}
+use borrow.Author.Tests.{eqb-true, eqb-false, leb-true, ltb-true, ltb-false, eq-eqb, ne-eqb, le-leb, lt-leb, lt-ltb, le-ltb}
+use Rattle.laws.specs.Tests.{tick, allBelow, allOf}
 use Rattle.laws.proofs.Bools.{by-test, both-ways, clash, and-both, and-left, and-right, and-no}
 use Rattle.laws.proofs.Belows.{below-at}
 use Rattle.machine.specs.Pages.{inRange, listed, pageShift, pageSize, pageStart}
@@ -22,7 +22,7 @@ use Rattle.machine.specs.Questions.{Question, question, refusalNumber, f
 use Rattle.machine.specs.Step.{tsbOffset, tsbPointer, pointer, act}
 use Rattle.machine.specs.Stream.{answerBytes}
 use Rattle.machine.specs.Ledger.{Ledger, start, writes, codeBytes, pageBytes, codeListed, addressGood, wordGood, registerKnown, registerWritable, valueGood, contextPicked, tagOf, line, newEntry, firstNo, selectorGood, questions, pointerOf, pointers}
-use Rattle.machine.specs.Demand3.{entryIn}
+use Rattle.machine.specs.Frame.{entryIn}
 use Rattle.machine.specs.declared.Command.{Command}
 use Rattle.machine.specs.declared.Command.the-variants as command
 use Rattle.machine.specs.declared.Refusal.{Refusal}
@@ -144,13 +144,32 @@ configuration-good : (v : ℕ) → (eqb v (v % 8 + v / 256 % 8 * 256) && (codeLi
 unfolding configurationAllowed listed
 configuration-good v = rw (configuration-rest v) (and-turn _ (codeListed (v % 8)) (codeListed (v / 256 % 8)))
 
+-- what may be written may be read
+writable-known : (number : ℕ) → writable number ≡ true → known number ≡ true
+unfolding writable known
+writable-known number w =
+    by-test (ltb number 6) (λ e. rw e) (λ e. by-test (ltb number 8)
+    (λ f. clash (rw (e, f) at w) refl)
+    (λ f. rw (e, f) (lt-ltb number 26 (omega (arith, writable-below number w)))))
+
+-- a cell that is no register
+no-register : (number value : ℕ) → known number ≡ false → allowed number value ≡ eqb value 0
+unfolding known allowed
+no-register number value h =
+    by-test (ltb number 6) (λ e. clash (rw e) h) (λ e.
+    let from : (k : ℕ) → k ≤ 6 → ltb number k ≡ false = λ k l. le-ltb number k (omega (arith, ltb-false number 6 e)) in
+    rw (from 1 (omega arith), from 3 (omega arith), from 4 (omega arith), from 5 (omega arith), e)
+    (by-test (ltb number 8) (λ f. rw f) (λ f.
+    let past : ltb number 26 ≡ false = rw (e, f) at h in
+    rw (f, le-ltb number 16 (omega (arith, ltb-false number 26 past)), le-ltb number 20 (omega (arith, ltb-false number 26 past)), past))))
+
 -- two chains of choices, link by link
-link : {A : Type 0} {a b : Bool} {x y z w : A} → a ≡ b → x ≡ z → (b ≡ false → y ≡ w) → pick a x y ≡ cond b z w
+link : {A : Type 0} {a b : Bool} {x y z w : A} → a ≡ b → x ≡ z → (b ≡ false → y ≡ w) → cond a x y ≡ cond b z w
 link {b} e p q = rw e (by-test b (λ t. rw t p) (λ t. rw t (q t)))
 
--- number 10, of a register that passed 9
-pub value-good : (number value : ℕ) → writable number ≡ true → valueGood number value ≡ allowed number value
-unfolding writable allowed baseAllowed
+-- number 10, of a register that passed 9; it is asked of read-only ones too
+pub value-good : (number value : ℕ) → known number ≡ true → valueGood number value ≡ allowed number value
+unfolding known allowed baseAllowed
 value-good number value w =
     link (only number 0 (omega arith)) (at-most value 7) (λ e0.
     link (one-or-two number (ltb-false _ _ e0)) (at-most value 8191) (λ e2.
@@ -161,7 +180,13 @@ value-good number value w =
     rw e7
     (link (between 8 number 15 (ltb-false _ _ e7)) refl (λ e15.
     link (between 16 number 19 (ltb-false _ _ e15)) (configuration-good value) (λ e19.
-    rw (lt-ltb number 26 (omega (arith, writable-below number w)))))))))))
+    rw (lt-ltb number 26 (known-below number w))))))))))
+
+-- what may stand in a cell
+pub cell-good : (number value : ℕ) → cond (registerKnown number) (valueGood number value) (eqb value 0) ≡ allowed number value
+cell-good number value = rw (register-known number) (by-test (known number)
+    (λ e. rw e (value-good number value e))
+    (λ e. rw e (sym (no-register number value e))))
 
 -- ---- operands
 -- number 7, of a demap
@@ -174,7 +199,7 @@ size-good kind size = rw (at-most size 3)
 -- ---- the registers of a state and a ledger that are alike
 module _ {n : Counts} {u : State} {l : Ledger} (a : Alike n u l) (strand : ℕ) (s : strand < 4) where
   access-selector : (kind selector : ℕ)
-      → (selectorGood (pick (eqb kind 0) 0 1) selector && not (eqb selector 2 && (eqb (l .registers strand 3) 0 && eqb kind 0)))
+      → (selectorGood (cond (eqb kind 0) 0 1) selector && not (eqb selector 2 && (eqb (l .registers strand 3) 0 && eqb kind 0)))
       ≡ (selectorFits (kindSide kind) selector && not (nucleusFetch (u .registers) strand kind selector))
   access-selector kind selector =
       rw (a .registers strand 3 s (omega arith), selector-good (kindSide kind) selector, and-turn (eqb kind 0) (eqb selector 2))
@@ -256,7 +281,7 @@ data InStep (left : Bool) : List Question → List (ℕ × Bool) → Type 0 wher
       → InStep left (question r b ∷ qs) ((refusalNumber r, c) ∷ ps)
 
 first-no : {left : Bool} {qs : List Question} {ps : List (ℕ × Bool)} → InStep left qs ps
-    → verdictNumber (ask qs) ≡ pick (eqb (firstNo ps) 0) (pick left 0 13) (firstNo ps)
+    → verdictNumber (ask qs) ≡ cond (eqb (firstNo ps) 0) (cond left 0 13) (firstNo ps)
 unfolding ask firstNo
 first-no (done e) = rw e
 first-no {left} slot = by-test left (λ t. rw t) (λ t. rw t)
@@ -284,7 +309,7 @@ module _ {n : Counts} {u : State} {l : Ledger} (a : Alike n u l) where
   in-step : (c : Command) → InStep (slotLeft u c) (asked u c) (questions l c)
   unfolding asked questions
   in-step (command.Write strand number value) =
-      next (at-most strand 3) (λ s. next (register-writable number) (λ w. next (value-good number value w) (λ _. done refl)))
+      next (at-most strand 3) (λ s. next (register-writable number) (λ w. next (value-good number value (writable-known number w)) (λ _. done refl)))
   in-step (command.Insert strand side flags word) =
       next (at-most strand 3) (λ s. next (at-most side 1) (λ d. next (at-most flags 3) (λ _.
       next (ap addressGood (tag-address a strand (ltb-true _ _ s) side (ltb-true _ _ d)) ∙ address-good _) (λ _.
@@ -302,7 +327,7 @@ module _ {n : Counts} {u : State} {l : Ledger} (a : Alike n u l) where
   in-step (command.Read strand number) = next (at-most strand 3) (λ s. next (register-known number) (λ _. done refl))
   in-step (command.Pointers strand side) = next (at-most strand 3) (λ s. next (at-most side 1) (λ _. done refl))
 
-  first-refusal : (c : Command) → verdictNumber (verdict u c) ≡ pick (eqb (firstNo (questions l c)) 0) (pick (slotLeft u c) 0 13) (firstNo (questions l c))
+  first-refusal : (c : Command) → verdictNumber (verdict u c) ≡ cond (eqb (firstNo (questions l c)) 0) (cond (slotLeft u c) 0 13) (firstNo (questions l c))
   unfolding verdict
   first-refusal c = first-no (in-step c)
 
@@ -311,7 +336,7 @@ module _ {n : Counts} {u : State} {l : Ledger} (a : Alike n u l) where
   refused-alike c h = first-refusal c ∙ rw (ne-eqb (firstNo (questions l c)) 0 h)
 
   -- one that it does not refuse so passes, but for an insertion that finds no slot: 13
-  pub passed-alike : (c : Command) → firstNo (questions l c) ≡ 0 → verdictNumber (verdict u c) ≡ pick (slotLeft u c) 0 13
+  pub passed-alike : (c : Command) → firstNo (questions l c) ≡ 0 → verdictNumber (verdict u c) ≡ cond (slotLeft u c) 0 13
   passed-alike c h = first-refusal c ∙ rw h
 
   -- ---- commands that touch no side
@@ -391,7 +416,7 @@ reset-alike n i d = record {
 }
   where
     same : ℕ → ℕ → Bool
-    same strand number = eqb (pick (eqb number 3) 2 0) (register resetRegisters strand number)
+    same strand number = eqb (cond (eqb number 3) 2 0) (register resetRegisters strand number)
 
 -- ---- the entry of an insertion
 lock-back : (b : Bool) → eqb ((tick b + 2) % 2) 1 ≡ b
@@ -404,7 +429,7 @@ flag-locked flags h = both-ways (leb 2 flags) (flagLocked flags) (λ e. omega te
 -- what stands in a new slot
 entry-in : (real : Bool) (p c address : ℕ) (locked : Bool) (word : ℕ) → p < 8 → c < 8192
     → entryIn (entryOf (keyOf real p c address) locked word)
-    ≡ record { partition = p; real = real; context = pick real 0 c; page = pageStart (word % 2 ^ 4) address; locked = locked; word = word }
+    ≡ record { partition = p; real = real; context = cond real 0 c; page = pageStart (word % 2 ^ 4) address; locked = locked; word = word }
 unfolding entryOf
 entry-in true p c address locked word h k =
     let o = owner-parts p true 0 in

@@ -15,8 +15,6 @@ use Rattle.laws.proofs.Stores.{sets-append, take-sets, drop-sets}
 use Rattle.machine.specs.State.{Counts, State, stateOf, encode, wordsSound}
 use Rattle.machine.specs.Step.{step}
 use Rattle.machine.specs.Stream.{Bytes, Taken, Outcome, byte, whole, decodeAt, answerBytes, ended, more, takesOne, takes, takenOf, after, answersBytes, finish, runOf}
-use Rattle.machine.specs.Demand3.{Reads, none, next, Ended, undecoded, full, commandsOf}
-use Rattle.machine.specs.Demand3 as demand
 use Rattle.machine.specs.declared.Command.{Command}
 use Rattle.machine.specs.declared.Decoded.{Decoded}
 use Rattle.machine.specs.declared.Decoded.the-variants.{Known, Stop}
@@ -58,7 +56,7 @@ module _ (s : Bytes) (at : ℕ) where
 
 -- ---- what a run takes
 -- from a position, with room left: `takes` where its turns are enough
-data Takes (input : Bytes) : ℕ → ℕ → Taken → Type 0 where
+pub data Takes (input : Bytes) : ℕ → ℕ → Taken → Type 0 where
   at-end : {at room : ℕ} → length input ≤ at → Takes input at room (ended 0)
   at-stop : {at room k : ℕ} → at < length input → decodeAt input at ≡ Stop k → Takes input at room (ended k)
   no-room : {at room width : ℕ} {c : Command} → at < length input → decodeAt input at ≡ Known c width → room < 24 → Takes input at room (ended 4)
@@ -83,7 +81,7 @@ module _ (input : Bytes) where
       (λ f. rw f (at-end (ltb-false at (length input) f)))
 
   -- and more turns change nothing
-  takes-only : (turns : ℕ) {at room : ℕ} {t : Taken} → Takes input at room t → length input ≤ at + turns → takes turns input at room ≡ t
+  pub takes-only : (turns : ℕ) {at room : ℕ} {t : Taken} → Takes input at room t → length input ≤ at + turns → takes turns input at room ≡ t
   unfolding takes
   takes-only zero (at-end h) l = refl
   takes-only zero (at-stop h e) l = absurd (omega arith)
@@ -95,14 +93,6 @@ module _ (input : Bytes) where
   takes-only (suc turns) {at} (one h e f r) l =
       rw (lt-ltb _ (length input) h, e, le-ltb _ 24 f, takes-only turns r (omega (arith, decode-width input at e)))
 
-  reads : {at room : ℕ} {t : Taken} → Takes input at room t → Reads input at (t .commands) (at + t .width)
-  reads {at} (at-end h) = rw add-zero none
-  reads {at} (at-stop h e) = rw add-zero none
-  reads {at} (no-room h e f) = rw add-zero none
-  reads {at} (one {width = width} {rest = rest} h e f r) =
-      let m : at + (width + rest .width) ≡ at + width + rest .width = omega arith in
-      rw m (next e (reads r))
-
   -- the answers fit into the room
   fits : {at room : ℕ} {t : Taken} → Takes input at room t → length (t .commands) * 24 ≤ room
   fits (at-end h) = omega arith
@@ -110,37 +100,15 @@ module _ (input : Bytes) where
   fits (no-room h e f) = omega arith
   fits (one h e f r) = omega (arith, fits r)
 
-  -- why a run ended, of which `answered` commands are answered before
-  ends : (all answered : ℕ) {at room : ℕ} {t : Taken} → Takes input at room t → at ≤ length input → answered * 24 + room ≡ all →
-      Ended input all (answered + length (t .commands)) (at + t .width) (t .stop)
-  ends all n {at} (at-end h) l q = demand.whole (omega arith)
-  ends all n {at} (at-stop h e) l q = rw (add-zero n, add-zero at) (undecoded h e)
-  ends all n {at} (no-room h e f) l q = rw (add-zero n, add-zero at) (full h e (omega arith))
-  ends all n {at} (one {width = width} {rest = rest} h e f r) l q =
-      let a : n + suc (length (rest .commands)) ≡ n + 1 + length (rest .commands) = omega arith in
-      let b : at + (width + rest .width) ≡ at + width + rest .width = omega arith in
-      rw (a, b) (ends all (n + 1) r (decode-width input at e .1) (omega arith))
-
-  ended-stop : {room answered taken k : ℕ} → Ended input room answered taken k → k ≡ 1 → ⊥
-  ended-stop (demand.whole h) q = omega arith
-  ended-stop {taken} (undecoded h e) q = omega (arith, decode-stop input taken e)
-  ended-stop (full h e f) q = omega arith
-
   module _ (room : ℕ) where
     taken-all : Takes input 0 room (takenOf input room)
     taken-all = takes-all (length input) (omega arith)
 
-    pub takes-reads : Reads input 0 (takenOf input room .commands) (takenOf input room .width)
-    takes-reads = rw zero-add at (reads taken-all)
-
-    pub takes-ended : Ended input room (length (takenOf input room .commands)) (takenOf input room .width) (takenOf input room .stop)
-    takes-ended = simp zero-add at (ends room 0 taken-all (omega arith) (omega arith))
-
-    pub takes-stop : takenOf input room .stop ≡ 1 → ⊥
-    takes-stop = ended-stop takes-ended
-
     pub takes-room : length (takenOf input room .commands) * 24 ≤ room
     takes-room = fits taken-all
+
+abbrev pub commandsOf : Bytes → Bytes → List Command
+commandsOf input output = takenOf input (length output) .commands
 
 -- ---- what a run from a sound state leaves
 module _ (n : Counts) (words : List ℕ) (input output : Bytes) (h : wordsSound n words ≡ true) where
@@ -155,16 +123,6 @@ module _ (n : Counts) (words : List ℕ) (input output : Bytes) (h : wordsSound 
   pub run-stop : runOf n words input output .stop ≡ takenOf input (length output) .stop
   unfolding runOf finish
   run-stop = rw h
-
-  pub run-reads : Reads input 0 (commandsOf input output) (runOf n words input output .taken)
-  run-reads = rw run-taken (takes-reads input (length output))
-
-  pub run-ended : Ended input (length output) (runOf n words input output .answered) (runOf n words input output .taken) (runOf n words input output .stop)
-  run-ended = rw (run-answered, run-taken, run-stop) (takes-ended input (length output))
-
-  -- "no run stops with 1"
-  pub run-not-one : runOf n words input output .stop ≡ 1 → ⊥
-  run-not-one = rw run-stop (takes-stop input (length output))
 
   pub run-words : runOf n words input output .words ≡ encode (after (stateOf n words) (commandsOf input output))
   unfolding runOf finish

@@ -5,33 +5,30 @@ use mathlib.Core.Path.{_≡_, refl, ap, sym, _∙_}
 use mathlib.Core.Bool.{Bool, true, false, not, _&&_, _||_, Bool·beq, and-assoc}
 use mathlib.Core.List.{List, [], _∷_, _++_}
 use mathlib.Core.Option.{none, some}
-use mathlib.Core.Logic.{⊎-elim}
 use native.Mathlib.Omega.{arith}
 use native.Mathlib.Nat.{mod-lt, mul-assoc}
 use lib.Dec.{eqb, leb, ltb}
 use lib.Pow.{split, high, pow-pos, pow-add}
 use lib.ListN.{length, getD, replicate, length-set, length-replicate, List·getD-eq-default}
 use borrow.Author.Tests.{eqb-true, eqb-false, eq-eqb, lt-ltb, ltb-true, ltb-false, le-leb, leb-true, not-true}
-use Rattle.laws.specs.Tests.{tick, count, anyOf, allOf, without, find, first}
-use Rattle.laws.specs.declared.Found.{Found}
+use Rattle.laws.specs.Tests.{tick, count, anyOf, allOf, first}
+use Rattle.laws.specs.Passing.{nonePasses, without, find}
 use Rattle.laws.specs.declared.Found.the-variants.{At, Nothing}
 use Rattle.laws.proofs.Bools.{by-test, clash, both-ways, and-both, and-left, and-right, and-no}
-use Rattle.laws.proofs.Counts.{count-append, count-without, count-none, count-all, count-rest, count-at, count-one, count-le, none-count, count-allOf}
+use Rattle.laws.proofs.Counts.{count-append, count-passing, count-none, count-all, count-rest, count-at, count-one, count-le, none-count}
 use Rattle.laws.proofs.Walks.{found-at, found-none}
-use Rattle.laws.proofs.Finds.{count-index, find-zero, find-only, removed-once, count-where, first-where, zero-none, without-none}
+use Rattle.laws.proofs.Finds.{count-index, find-zero, find-only, removed-once, count-where, zero-none, without-none, how-many, none-passes}
 use Rattle.machine.specs.Pages.{listed, pageShift, pageSize, pageStart}
 use Rattle.machine.specs.Words.{wordSound}
-use Rattle.machine.specs.Slots.{noSlot, isLive, sizeCode, partitionOf, isReal, contextOf, isLocked, isUsed, holds, answersTo, setUsed}
-use Rattle.machine.specs.Insertion.{overlaps, removed, removes, isEmpty, candidate, wants, foundOr, choice, inserted, placed, hasSlot}
+use Rattle.machine.specs.Slots.{noSlot, isLive, sizeCode, partitionOf, isReal, contextOf, holds, answersTo, withUsed, setUsed}
+use Rattle.machine.specs.Insertion.{overlaps, removed, removes, isEmpty, candidate, inserted, placed, hasSlot}
 use Rattle.machine.specs.Sound.{ownerSound, liveSound, slotSound, sideSound}
 use Rattle.machine.specs.Questions.{keyOf}
 use Rattle.machine.specs.Ledger.{Entry, Ledger, Name, codeBytes, pageBytes, reaches, overlap, unlocked, isAt, inContext, inPartition, isNamed, lacksSlot, inserts, answers, withEntries, line}
-use Rattle.machine.specs.Demand3.{Live, entryIn, foundElse, picked}
+use Rattle.machine.specs.Demand3.{Live}
+use Rattle.machine.specs.Frame.{entryIn}
 use Rattle.machine.specs.declared.Slot.{Slot}
 use Rattle.machine.specs.declared.Removal.the-variants.{Page, Context, Unlocked, Everything}
-use Rattle.machine.specs.declared.Wanted.the-variants as wanted
-use Rattle.machine.specs.declared.Choice.{Choice}
-use Rattle.machine.specs.declared.Choice.the-variants.{Empty, Unused, Cleared, Full}
 use Rattle.machine.specs.declared.Placed.the-variants.{Done, Displaced}
 use Rattle.machine.proofs.Pages.{shift-large}
 use Rattle.machine.proofs.Alike.{hit, SideAlike}
@@ -173,6 +170,10 @@ candidate-test = record { agree = λ x h l. rw l; live = λ x e. and-left _ _ e 
 pub live-test : SameTest isLive (λ _. true)
 live-test = record { agree = λ x h l. l; live = λ x e. e }
 
+pub everything-test : SameTest (removes Everything) (λ _. true)
+unfolding removes
+everything-test = live-test
+
 -- on a sound slot the test of the entry is the test of the slot
 same-hit : {q : Slot → Bool} {p : Entry → Bool} → SameTest q p → (x : Slot) → slotSound x ≡ true → q x ≡ hit p x
 same-hit {q} t x h = by-test (isLive x) (λ l. rw l (t .agree x h l)) (λ l. rw l (by-test (q x) (λ e. clash (t .live x e) l) (λ e. e)))
@@ -253,35 +254,6 @@ named-overlap d x y hx lx hy ly dx dy =
     sym (owner-same x y) ∙ rw (eq-eqb _ _ (sym px ∙ py), tick-same (isReal x) (isReal y) (sym rx ∙ ry), same-self (isReal y)) (eq-eqb _ _ (e .1)) in
     rw (lx, ly, owner, eq-eqb _ _ start)
 
--- ---- the entry displaced
--- the index that a choice displaces
-abbrev displacedAt : Choice → Found
-displacedAt (Empty i) = Nothing
-displacedAt (Unused i) = At i
-displacedAt (Cleared i) = At i
-displacedAt Full = Nothing
-
--- of a full side, the choice of a slot is the ledger's pick
-picked-choice : (s : List Slot) → anyOf isEmpty s ≡ false → picked s ≡ displacedAt (choice candidate s)
-unfolding picked choice wants
-picked-choice s e =
-    rw (
-      first-where isLive (λ x. not (isLocked x) && not (isUsed x)) (wants candidate wanted.Unused) s lives (λ x l. rw l),
-      first-where isLive (λ x. not (isLocked x)) (wants candidate wanted.Candidate) s lives (λ x l. rw l),
-    )
-    (go (first isEmpty s) (first (wants candidate wanted.Unused) s) (first (wants candidate wanted.Candidate) s) refl)
-  where
-    lives : allOf isLive s ≡ true
-    lives = count-allOf isLive s (none-count isEmpty s e)
-
-    go : (a b c : Found) → first isEmpty s ≡ a → foundElse b c ≡ displacedAt (foundOr a Empty (foundOr b Unused (foundOr c Cleared Full)))
-    go (At i) b c f =
-        let w = found-at noSlot isEmpty s i f in
-        absurd (omega (arith, none-count isEmpty s e, count-at isEmpty s i noSlot (w .0) (w .1)))
-    go Nothing (At i) c f = refl
-    go Nothing Nothing (At i) f = refl
-    go Nothing Nothing Nothing f = refl
-
 -- ---- alike
 pub alike-empty : (n : ℕ) → SideAlike n (replicate n noSlot) []
 unfolding count
@@ -300,7 +272,6 @@ pub record DisplacedSays (n : ℕ) (new : Slot) (s : List Slot) (m : List Entry)
   pub free : unlocked (entryIn x) ≡ true
   pub index : ℕ
   pub there : getD s index noSlot ≡ x
-  pub chosen : picked s ≡ At index
   pub listed : Live (entryIn x) m
   pub found : (d : Name) → isNamed d (entryIn x) ≡ true → find (λ e. isNamed d e && unlocked e) m ≡ some (entryIn x)
   pub after : (d : Name) → isNamed d (entryIn x) ≡ true → SideAlike n (inserted candidate new s) (without (isNamed d) m ++ (entryIn new ∷ []))
@@ -319,7 +290,7 @@ module _ {n : ℕ} {s : List Slot} {m : List Entry} (h : SideAlike n s m) where
   count-spared {q} {p} t r =
       count-where slotSound _ (hit (λ e. not (p e) && r e)) s all-sound
       (λ x k. by-test (isLive x) (λ l. rw (l, t .agree x k l)) (λ l. rw l (and-no (not (q x)))))
-      ∙ h .same _ ∙ sym (count-without r p m)
+      ∙ h .same _ ∙ sym (count-passing r _ m)
 
   pub alike-removed : {q : Slot → Bool} {p : Entry → Bool} → SameTest q p → SideAlike n (removed q s) (without p m)
   alike-removed {q} {p} t = record {
@@ -333,14 +304,14 @@ module _ {n : ℕ} {s : List Slot} {m : List Entry} (h : SideAlike n s m) where
   unfolding removes count
   alike-emptied =
       let k : SideAlike n (removed isLive s) (without (λ _. true) m) = alike-removed live-test in
-      record { size = k .size; sound = k .sound; same = λ r. k .same r ∙ count-without r (λ _. true) m ∙ count-none _ m (λ _. refl) }
+      record { size = k .size; sound = k .sound; same = λ r. k .same r ∙ count-passing r _ m ∙ count-none _ m (λ _. refl) }
 
   -- ---- lookups
   pub alike-used : (i : ℕ) → isLive (getD s i noSlot) ≡ true → SideAlike n (setUsed i s) m
   alike-used i l = record {
     size = length-set s i _ ∙ h .size;
     sound = sound-set-used s i (h .sound) l;
-    same = λ p. count-set-used (hit p) (λ x. blind p x (x .flags % 2 + 2) (omega arith)) s i ∙ h .same p;
+    same = λ p. count-set-used (hit p) (λ x. blind p x (withUsed x .flags) (omega arith)) s i ∙ h .same p;
   }
 
   -- the entry of a live slot is in the list
@@ -395,9 +366,9 @@ module _ {n : ℕ} {s : List Slot} {m : List Entry} (h : SideAlike n s m) where
       (λ t. eq-eqb (length m) n (omega (arith, eqb-true (count isEmpty s) 0 t)))
       ∙ zero-none isEmpty s
 
-  -- none is counted where none passes
-  pub alike-zero : {q : Slot → Bool} {p : Entry → Bool} → SameTest q p → eqb (count p m) 0 ≡ not (anyOf q s)
-  alike-zero {q} t = rw (← (alike-count t)) (zero-none q s)
+  -- none passes where none does
+  pub alike-zero : {q : Slot → Bool} {p : Entry → Bool} → SameTest q p → nonePasses p m ≡ not (anyOf q s)
+  alike-zero {q} {p} t = rw (how-many p m, ← (alike-count t)) (zero-none q s)
 
   module _ (new : Slot) (k : slotSound new ≡ true) (l : isLive new ≡ true) where
     -- number 13
@@ -412,7 +383,7 @@ module _ {n : ℕ} {s : List Slot} {m : List Entry} (h : SideAlike n s m) where
     )
 
     -- an entry makes way where no slot is empty and none overlaps
-    pub alike-crowded : (eqb (length m) n && eqb (count (overlap (entryIn new)) m) 0) ≡ not (anyOf isEmpty s || anyOf (overlaps new) s)
+    pub alike-crowded : (eqb (length m) n && nonePasses (overlap (entryIn new)) m) ≡ not (anyOf isEmpty s || anyOf (overlaps new) s)
     alike-crowded = rw (alike-full, alike-zero (overlap-test new k l), not-or (anyOf isEmpty s) (anyOf (overlaps new) s))
 
     counts : (r : Entry → Bool) → count (hit r) (inserted candidate new s) + displacedShare (hit r) (placed candidate new s)
@@ -423,7 +394,7 @@ module _ {n : ℕ} {s : List Slot} {m : List Entry} (h : SideAlike n s m) where
 
     -- with a slot empty or made so
     pub alike-done : placed candidate new s ≡ Done
-        → ((eqb (length m) n && eqb (count (overlap (entryIn new)) m) 0) ≡ false)
+        → ((eqb (length m) n && nonePasses (overlap (entryIn new)) m) ≡ false)
         × SideAlike n (inserted candidate new s) (without (overlap (entryIn new)) m ++ (entryIn new ∷ []))
     unfolding count
     alike-done d =
@@ -446,8 +417,8 @@ module _ {n : ℕ} {s : List Slot} {m : List Entry} (h : SideAlike n s m) where
         let w : Displacement candidate new s x = rw d at (placed-says candidate new s) in
         let i : ℕ = w .index in
         let lx : isLive x ≡ true = and-left _ _ (w .allowed) in
-        let full : (eqb (length m) n && eqb (count (overlap (entryIn new)) m) 0) ≡ true = alike-crowded ∙ rw (w .full, w .apart) in
-        let apart : count (overlap (entryIn new)) m ≡ 0 = search conj in
+        let full : (eqb (length m) n && nonePasses (overlap (entryIn new)) m) ≡ true = alike-crowded ∙ rw (w .full, w .apart) in
+        let apart : count (overlap (entryIn new)) m ≡ 0 = sym (how-many _ m) ∙ search conj in
         let listed : Live (entryIn x) m = rw (w .there) at (alike-live i (rw (w .there) lx)) in
         record {
           full = search conj;
@@ -457,7 +428,6 @@ module _ {n : ℕ} {s : List Slot} {m : List Entry} (h : SideAlike n s m) where
           free = and-right (isLive x) _ (w .allowed);
           index = i;
           there = w .there;
-          chosen = picked-choice s (w .full) ∙ ⊎-elim (λ u. ap displacedAt (u .0)) (λ u. ap displacedAt (u .0)) (w .chosen);
           listed = listed;
           found = λ c t.
               find-only (λ e. isNamed c e && unlocked e) m (entryIn x) (and-both _ _ t (and-right (isLive x) _ (w .allowed))) listed
@@ -471,7 +441,7 @@ module _ {n : ℕ} {s : List Slot} {m : List Entry} (h : SideAlike n s m) where
                 omega (
                   arith,
                   removed-once r (isNamed c) m (entryIn x) t listed (named-once c),
-                  count-without r (isNamed c) m,
+                  count-passing r (λ e. not (isNamed c e)) m,
                   count-append r (without (isNamed c) m) (entryIn new ∷ []),
                 );
           };
@@ -495,4 +465,4 @@ module _ {n : ℕ} {s : List Slot} (g : Ledger) (side : ℕ) (h : SideAlike n s 
   unfolding inserts
   inserts-displaced x e t =
       let w : DisplacedSays n new s (g .entries side) x = alike-displaced h new k l x e in
-      rw (alike-lacks h new k l, slot-had candidate new s, e, eq-eqb _ _ (w .full), eq-eqb _ 0 (w .apart), w .found d t)
+      rw (alike-lacks h new k l, slot-had candidate new s, e, eq-eqb _ _ (w .full), eq-eqb _ 0 (how-many _ _ ∙ w .apart), w .found d t)

@@ -1,5 +1,5 @@
 -- Laws of soundness, on any number of slots: what keeps a side sound, and what a sound slot is known to be. Assumes nothing.
-use Prim.Native.Nat.{ℕ, zero, suc, _+_, _/_, _%_, _^_, _<_}
+use Prim.Native.Nat.{ℕ, zero, suc, _/_, _%_, _^_, _<_}
 use mathlib.Core.Path.{_≡_, refl, ap, _∙_}
 use mathlib.Core.List.{List, map}
 use mathlib.Core.Bool.{Bool, true, false, not, _&&_, _||_}
@@ -221,7 +221,7 @@ pub sound-set-used : (s : List Slot) (i : ℕ) → sideSound s ≡ true → isLi
 unfolding overlaps sideSound
 sound-set-used s i h l =
     let x : Slot = getD s i noSlot in
-    sound-set slotSound (withUsed x) s i (flagged-sound x (x .flags % 2 + 2) (sound-slot s i h) l (omega arith)) (λ y _ e. e) (and-left _ _ h) h
+    sound-set slotSound (withUsed x) s i (flagged-sound x (withUsed x .flags) (sound-slot s i h) l (omega arith)) (λ y _ e. e) (and-left _ _ h) h
 
 -- all used bits, cleared
 pub sound-clear-used : (s : List Slot) → sideSound s ≡ true → sideSound (clearUsed s) ≡ true

@@ -9,7 +9,7 @@ use lib.Dec.{eqb, ltb}
 use lib.ListN.{length, getD, set, take, drop, replicate, length-set, length-append, length-drop, length-replicate, take-append-drop}
 use lib.Seq.{take-at, drop-at, drop-drop, length-take-le, getD-set-same, getD-set-other}
 use borrow.Author.Tests.{eq-eqb, eqb-true, eqb-false, lt-ltb, le-ltb, ltb-true}
-use Rattle.laws.specs.Tests.{pick, allBelow, allOf, first}
+use Rattle.laws.specs.Tests.{allBelow, allOf, first}
 use Rattle.laws.specs.declared.Found.{Found}
 use Rattle.laws.specs.declared.Found.the-variants.{At, Nothing}
 use Rattle.laws.proofs.Bools.{by-test, clash, and-both, and-left, and-right}
@@ -24,7 +24,6 @@ use Rattle.machine.specs.Registers.{registerWords, cell, register, withR
 use Rattle.machine.specs.State.{slotCount, Counts, State, sideOf, withSide, withRegisters, stateWords, stateOf, encode, reset, sideFits, sound, wordsSound}
 use Rattle.machine.specs.Questions.{Question, kindSide, flagReal, flagLocked, keyOf, insertion, asked, ask, verdict}
 use Rattle.machine.specs.Access.{judge, prepare, trapTag, trapRegisters, addressUsed, settleJudged, settleFound, settle}
-use Rattle.machine.specs.Unseen.{SameSlots}
 use Rattle.machine.specs.declared.Access.{Access}
 use Rattle.machine.specs.declared.Tag.{Tag}
 use Rattle.machine.specs.declared.Tag.the-variants as effect
@@ -46,7 +45,7 @@ use Rattle.machine.specs.declared.Verdict.the-variants.{Passed, Refused}
 use Rattle.machine.proofs.Words.{insertable-sound}
 use Rattle.machine.proofs.Slots.{words-back, slots-back, words-length}
 use Rattle.machine.proofs.Insertion.{length-removed, length-inserted}
-use Rattle.machine.proofs.Unseen.{unseen}
+use Rattle.machine.proofs.Unseen.{SameSlots, found-slots}
 use Rattle.machine.proofs.Sound.{entry-sound, empty-sound, sound-removed, sound-set-used, sound-inserted}
 
 ruleset conj = (and-left, and-right, eqb-true, ltb-true)
@@ -54,7 +53,7 @@ ruleset conj = (and-left, and-right, eqb-true, ltb-true)
 -- ---- the register file
 -- a register read after a write: strands and numbers have cells of their own
 pub register-written : (file : List ℕ) (strand number value s r : ℕ) → cell strand number < length file → number < 32 → r < 32
-    → register (withRegister file strand number value) s r ≡ pick (eqb s strand && eqb r number) value (register file s r)
+    → register (withRegister file strand number value) s r ≡ cond (eqb s strand && eqb r number) value (register file s r)
 register-written file strand number value s r l h k =
     by-test (eqb s strand && eqb r number)
     (λ e.
@@ -296,7 +295,7 @@ same-sound : (n : Counts) (u v : State) → sound n u ≡ true → SameSlots v u
 unfolding sound
 same-sound n u v h (i, d) r = and-both _ _ r (rw (i, d) (and-right (registersSound (u .registers)) _ h))
 
--- an access of a known strand, from where it stops; which used bits it sets is said in `Unseen`
+-- an access of a known strand, from where it stops
 module _ (n : Counts) (a : Access) (s : a .strand < 4) where
   judged-registers : (u : State) (j : Judged) → registersSound (u .registers) ≡ true → registersSound (settleJudged u a j .state .registers) ≡ true
   judged-registers u (judged.Faulted t) h = trap-sound (u .registers) a t (trapTag (u .registers) a) h s
@@ -304,15 +303,15 @@ module _ (n : Counts) (a : Access) (s : a .strand < 4) where
 
   found-sound : (u : State) (key : Key) (f : Found) → sound n u ≡ true → first (answersTo key) (sideOf u (kindSide (a .kind))) ≡ f
       → sound n (settleFound u a f .state) ≡ true
-  found-sound u key Nothing h e = same-sound n u _ h (unseen .missed u a) (trap-sound (u .registers) a _ _ (sound-registers n u h) s)
+  found-sound u key Nothing h e = same-sound n u _ h (refl, refl) (trap-sound (u .registers) a _ _ (sound-registers n u h) s)
   found-sound u key (At i) h e =
       let side : ℕ = kindSide (a .kind) in
-      same-sound n (withSide u side (setUsed i (sideOf u side))) _ (marked-sound n u side i key h e) (unseen .marked u a i)
+      same-sound n (withSide u side (setUsed i (sideOf u side))) _ (marked-sound n u side i key h e) (found-slots u a i)
       (judged-registers _ (judge (u .registers) a (getD (sideOf u side) i noSlot .word)) (sound-registers n u h))
 
   settled-sound : (u : State) (p : Prepared) → sound n u ≡ true → sound n (settle u a p .state) ≡ true
-  settled-sound u (prepared.Stopped t tag) h = same-sound n u _ h (unseen .stopped u a t tag) (trap-sound (u .registers) a t tag (sound-registers n u h) s)
-  settled-sound u (prepared.Bypass p) h = same-sound n u _ h (unseen .bypassed u a p) (sound-registers n u h)
+  settled-sound u (prepared.Stopped t tag) h = same-sound n u _ h (refl, refl) (trap-sound (u .registers) a t tag (sound-registers n u h) s)
+  settled-sound u (prepared.Bypass p) h = same-sound n u _ h (refl, refl) (sound-registers n u h)
   settled-sound u (prepared.Lookup key) h = found-sound u key (first (answersTo key) (sideOf u (kindSide (a .kind)))) h refl
 
 -- every command that no question refused

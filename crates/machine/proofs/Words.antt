@@ -16,15 +16,15 @@ ruleset conjuncts = (and-left, and-right, eqb-true, ltb-true)
 
 -- ---- round trips
 -- the n bits from k up join those above them
-join : (w k n : ℕ) → w / 2 ^ (n + k) * 2 ^ (n + k) + bits k n w % 2 ^ n * 2 ^ k ≡ w / 2 ^ k * 2 ^ k
-join w k n = rw mod-mod (omega (arith, split w k, split w (n + k), mod-pow-add w n k))
+join : (w k n : ℕ) → w / 2 ^ (n + k) * 2 ^ (n + k) + bits k n w * 2 ^ k ≡ w / 2 ^ k * 2 ^ k
+join w k n = omega (arith, split w k, split w (n + k), mod-pow-add w n k)
 
 pub pack-unpack : (w : ℕ) → w < 2 ^ 64 → packed (unpacked w) ≡ w
 unfolding packed unpacked
 pack-unpack w h =
-    let top : bits 63 1 w % 2 * 2 ^ 63 ≡ w / 2 ^ 63 * 2 ^ 63 = omega arith in
+    let top : bits 63 1 w * 2 ^ 63 ≡ w / 2 ^ 63 * 2 ^ 63 = omega arith in
     let j = join w in
-    rw (top, j 62 1, j 56 6, j 13 43, j 12 1, j 11 1, j 10 1, j 9 1, j 8 1, j 7 1, j 6 1, j 4 2) (omega arith)
+    simp mod-mod (rw (top, j 62 1, j 56 6, j 13 43, j 12 1, j 11 1, j 10 1, j 9 1, j 8 1, j 7 1, j 6 1, j 4 2) (omega arith))
 
 pub unpack-pack : (t : Tte) → fields t ≡ true → unpacked (packed t) ≡ t
 unfolding unpacked packed fields

@@ -1,11 +1,10 @@
 -- Document 01, "Access": prepare (the mask, steps 1 to 4), lookup (5), judge (6 to 8), settle (used bit and registers).
 -- Assumes nothing.
 use Prim.Native.Nat.{ℕ, _+_, _*_, _%_, _^_}
-use mathlib.Core.Bool.{not, _&&_, _||_}
+use mathlib.Core.Bool.{not, cond, _&&_, _||_}
 use mathlib.Core.List.{List}
 use lib.Dec.{eqb, ltb}
 use lib.ListN.{getD}
-use Rattle.laws.specs.Tests.{pick}
 use Rattle.laws.specs.declared.Found.{Found}
 use Rattle.laws.specs.declared.Found.the-variants.{At, Nothing}
 use Rattle.machine.specs.Pages.{inRange, bypassed}
@@ -32,20 +31,20 @@ use Rattle.machine.specs.declared.Answer.the-variants as answer
 
 -- "With the mask 1 and mode 0 or 1 the address is first taken modulo 2^32."
 abbrev pub addressUsed : List ℕ → ℕ → VirtualAddress → VirtualAddress
-addressUsed file strand a = record { 0 = pick (eqb (addressMask file strand) 1 && ltb (mode file strand) 2) (a .0 % 2 ^ 32) (a .0) }
+addressUsed file strand a = record { 0 = cond (eqb (addressMask file strand) 1 && ltb (mode file strand) 2) (a .0 % 2 ^ 32) (a .0) }
 
 -- ---- prepare
 -- 0x08 on a fetch, 0x30 on data
 abbrev pub exception : ℕ → ℕ → Trap
-exception kind fault = pick (eqb kind 0) (trap.InstructionAccessException fault) (trap.DataAccessException fault)
+exception kind fault = cond (eqb kind 0) (trap.InstructionAccessException fault) (trap.DataAccessException fault)
 
 -- "the selected context, or context 0 when translation is off for the side"
 abbrev pub trapTag : List ℕ → Access → Tag
-trapTag file a = effect.Written (pick (translates file (a .strand) (kindSide (a .kind))) (selected file (a .strand) (a .selector)) 0)
+trapTag file a = effect.Written (cond (translates file (a .strand) (kindSide (a .kind))) (selected file (a .strand) (a .selector)) 0)
 
 -- "cp is 1 and e 0 when bit 39 is 0, else cp 0 and e 1; ie 0"
 abbrev pub bypassTo : VirtualAddress → Translation
-bypassTo a = record { address = bypassed a; attributes = pick (eqb (bits 39 1 (a .0)) 0) 1 2 }
+bypassTo a = record { address = bypassed a; attributes = cond (eqb (bits 39 1 (a .0)) 0) 1 2 }
 
 -- "virtual if translation is on for the side, else real (context not compared)"
 abbrev pub lookupKey : List ℕ → Access → Key
@@ -55,31 +54,31 @@ lookupKey file a =
 unfoldable pub prepare : List ℕ → Access → Prepared
 prepare file a =
     -- 1. "Address not a multiple of the size: trap 0x34."
-    pick (not (eqb (a .used .0 % 2 ^ a .size) 0)) (prepared.Stopped trap.AddressNotAligned effect.Kept)
+    cond (not (eqb (a .used .0 % 2 ^ a .size) 0)) (prepared.Stopped trap.AddressNotAligned effect.Kept)
     -- 2. "Mode 0, data, nucleus: 0x37."
-    (pick (eqb (mode file (a .strand)) 0 && (not (eqb (a .kind) 0) && eqb (a .selector) 2)) (prepared.Stopped trap.PrivilegedAction effect.Kept)
+    (cond (eqb (mode file (a .strand)) 0 && (not (eqb (a .kind) 0) && eqb (a .selector) 2)) (prepared.Stopped trap.PrivilegedAction effect.Kept)
     -- 3. "Mode 2: bypass."
-    (pick (eqb (mode file (a .strand)) 2) (prepared.Bypass (bypassTo (a .used)))
+    (cond (eqb (mode file (a .strand)) 2) (prepared.Bypass (bypassTo (a .used)))
     -- 4. "Out of range: 0x08 on a fetch, 0x30 on data, fault type 0x20."
-    (pick (not (inRange (a .used .0))) (prepared.Stopped (exception (a .kind) 0x20) (trapTag file a))
+    (cond (not (inRange (a .used .0))) (prepared.Stopped (exception (a .kind) 0x20) (trapTag file a))
     -- 5. "Lookup"
     (prepared.Lookup (lookupKey file a)))))
 
 -- 5. "None: 0x64 fetch, 0x68 data; real 0x3E, 0x3F."
 abbrev pub missTrap : List ℕ → Access → Trap
 missTrap file a =
-    pick (translates file (a .strand) (kindSide (a .kind)))
-    (pick (eqb (a .kind) 0) trap.InstructionMiss trap.DataMiss)
-    (pick (eqb (a .kind) 0) trap.InstructionRealMiss trap.DataRealMiss)
+    cond (translates file (a .strand) (kindSide (a .kind)))
+    (cond (eqb (a .kind) 0) trap.InstructionMiss trap.DataMiss)
+    (cond (eqb (a .kind) 0) trap.InstructionRealMiss trap.DataRealMiss)
 
 -- ---- judge
 -- 6. "the sum of: 0x01 p is 1 in mode 0; 0x02 kind 4 and e is 1; 0x04 kind 3 and cp is 0; 0x10 nfo is 1 and kind is not 4"
 unfoldable pub faultType : ℕ → ℕ → ℕ → ℕ
 faultType mode kind word =
-    pick (eqb (bits 8 1 word) 1 && eqb mode 0) 0x01 0
-    + pick (eqb kind 4 && eqb (bits 11 1 word) 1) 0x02 0
-    + pick (eqb kind 3 && eqb (bits 10 1 word) 0) 0x04 0
-    + pick (eqb (bits 62 1 word) 1 && not (eqb kind 4)) 0x10 0
+    cond (eqb (bits 8 1 word) 1 && eqb mode 0) 0x01 0
+    + cond (eqb kind 4 && eqb (bits 11 1 word) 1) 0x02 0
+    + cond (eqb kind 3 && eqb (bits 10 1 word) 0) 0x04 0
+    + cond (eqb (bits 62 1 word) 1 && not (eqb kind 4)) 0x10 0
 
 -- "a = cp + 2·e + 4·ie"
 abbrev pub attributesOf : ℕ → ℕ
@@ -89,9 +88,9 @@ unfoldable pub judge : List ℕ → Access → ℕ → Judged
 judge file a word =
     let fault : ℕ = faultType (mode file (a .strand)) (a .kind) word in
     -- 6. "Not 0: 0x08 fetch, 0x30 data."
-    pick (not (eqb fault 0)) (judged.Faulted (exception (a .kind) fault))
+    cond (not (eqb fault 0)) (judged.Faulted (exception (a .kind) fault))
     -- 7. "Kind 2 or 3 and w is 0: 0x6C."
-    (pick ((eqb (a .kind) 2 || eqb (a .kind) 3) && eqb (bits 6 1 word) 0) (judged.Faulted trap.DataProtection)
+    (cond ((eqb (a .kind) 2 || eqb (a .kind) 3) && eqb (bits 6 1 word) 0) (judged.Faulted trap.DataProtection)
     -- 8. "word address rounded down to the page, plus the offset in it"
     (judged.Translated (record { address = physicalAt word (a .used .0); attributes = attributesOf word })))
 

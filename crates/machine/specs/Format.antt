@@ -1,11 +1,11 @@
--- Document 01, "The stream": the wire format of commands as its own text, and what it means that the decoder reads it. Assumes nothing.
-use Prim.Native.Nat.{ℕ, _^_, _≤_}
+-- Document 01, "The stream": the wire format of commands as its own text, what a run reads by it, and what it means that the decoder does. Assumes nothing.
+use Prim.Native.Nat.{ℕ, _-_, _^_, _≤_, _<_}
 use mathlib.Core.Path.{_≡_}
 use mathlib.Core.Bool.{Bool, true, _||_}
 use mathlib.Core.List.{List, [], _∷_, _++_}
 use lib.Dec.{ltb}
-use lib.ListN.{length}
-use Rattle.machine.specs.Stream.{byte, decodeAt}
+use lib.ListN.{length, getD}
+use Rattle.machine.specs.Stream.{decodeAt}
 use Rattle.machine.specs.Ledger.{bigEndian}
 use Rattle.machine.specs.declared.Command.{Command}
 use Rattle.machine.specs.declared.Command.the-variants as command
@@ -44,11 +44,39 @@ fits (command.Access strand kind selector size address) = ltb (address .0) (2 ^ 
 fits (command.Read strand register) = true
 fits (command.Pointers strand side) = true
 
--- the decoder reads the format, at any place of a stream
+-- ---- what a run takes
+-- "A run takes and answers its commands up to the end of its bytes or to the first that meets 2 to 4": of bytes, with room for answers, the commands, the bytes
+-- left, and the stop
+pub data Reads : List ℕ → ℕ → List Command → List ℕ → ℕ → Type 0 where
+  -- "0 at the end of input"
+  end : {room : ℕ} → Reads [] room [] [] 0
+  -- "Command byte known? 2"
+  unknown : {b room : ℕ} {r : List ℕ} → (ltb b 1 || ltb 9 b) ≡ true → Reads (b ∷ r) room [] (b ∷ r) 2
+  -- "All operands present? 3": a command cut off behind its first byte
+  short : {room : ℕ} {q : List ℕ} (c : Command) (r : List ℕ) → encoded c ≡ q ++ r → 1 ≤ length q → 1 ≤ length r → Reads q room [] q 3
+  -- "24 output bytes left? 4"
+  full : {room : ℕ} {s : List ℕ} (c : Command) (r : List ℕ) → fits c ≡ true → s ≡ encoded c ++ r → room < 24 → Reads s room [] s 4
+  -- a command, and what is read behind it
+  next : {room stop : ℕ} {s r rest : List ℕ} {cs : List Command} {c : Command} → fits c ≡ true → s ≡ encoded c ++ r → 24 ≤ room
+      → Reads r (room - 24) cs rest stop → Reads s room (c ∷ cs) rest stop
+
+pub record Reading : Type 0 where
+  pub commands : List Command
+  pub rest : List ℕ
+  pub stop : ℕ
+
+abbrev pub ReadAs : List ℕ → ℕ → Reading → Type 0
+ReadAs s room t = Reads s room (t .commands) (t .rest) (t .stop)
+
+-- all bytes can be read, whatever the room; in one way only, since a call is held to every reading
+abbrev pub Readable : Type 0
+Readable = (s : List ℕ) → ((i : ℕ) → getD s i 0 < 256) → (room : ℕ) → (t : Reading) × ReadAs s room t
+
+-- ---- the decoder reads the format, at any place of a stream
 pub record Decodes : Type 0 where
   -- a command written there is the command read, of its width
   pub known : (p r : List ℕ) (c : Command) → fits c ≡ true → decodeAt (p ++ (encoded c ++ r)) (length p) ≡ Known c (length (encoded c))
   -- "Command byte known? 2"
-  pub unknown : (s : List ℕ) (at : ℕ) → (ltb (byte s at) 1 || ltb 9 (byte s at)) ≡ true → decodeAt s at ≡ Stop 2
+  pub unknown : (s : List ℕ) (at : ℕ) → (ltb (getD s at 0) 1 || ltb 9 (getD s at 0)) ≡ true → decodeAt s at ≡ Stop 2
   -- "All operands present? 3": a command cut off after its first byte
   pub short : (p q r : List ℕ) (c : Command) → encoded c ≡ q ++ r → 1 ≤ length q → 1 ≤ length r → decodeAt (p ++ q) (length p) ≡ Stop 3

@@ -8,18 +8,21 @@ use mathlib.Core.Logic.{_⊎_}
 use lib.Dec.{eqb}
 use lib.ListN.{getD}
 use Rattle.laws.specs.Tests.{anyOf}
-use Rattle.machine.specs.Slots.{noSlot, isLive}
+use Rattle.machine.specs.Slots.{noSlot, isLive, partitionOf, isReal, contextOf, isLocked}
 use Rattle.machine.specs.Insertion.{isEmpty}
 use Rattle.machine.specs.Registers.{partition, selected}
 use Rattle.machine.specs.State.{Counts, State, sideOf, reset, sound}
 use Rattle.machine.specs.Questions.{insertion, verdict}
 use Rattle.machine.specs.Step.{step}
 use Rattle.machine.specs.Ledger.{Entry, overlap, unlocked, isAt, inContext}
-use Rattle.machine.specs.Demand3.{entryIn}
 use Rattle.machine.specs.declared.Slot.{Slot}
 use Rattle.machine.specs.declared.Command.{Command}
 use Rattle.machine.specs.declared.Command.the-variants as command
 use Rattle.machine.specs.declared.Verdict.the-variants.{Passed}
+
+-- the entry that stands in a slot
+abbrev pub entryIn : Slot → Entry
+entryIn x = record { partition = partitionOf x; real = isReal x; context = contextOf x; page = x .page; locked = isLocked x; word = x .word }
 
 -- some slot is live and holds the entry, word and lock included; the used bit is no part of it
 abbrev pub LivesIn : List Slot → Entry → Type 0

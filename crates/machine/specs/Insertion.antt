@@ -2,10 +2,10 @@
 -- Assumes nothing.
 use Prim.Native.Nat.{ℕ, _+_, _%_, _^_}
 use mathlib.Core.List.{List, map}
-use mathlib.Core.Bool.{Bool, false, not, _&&_, _||_}
+use mathlib.Core.Bool.{Bool, false, not, cond, _&&_, _||_}
 use lib.Dec.{eqb}
 use lib.ListN.{getD, set}
-use Rattle.laws.specs.Tests.{pick, tick, anyOf, first}
+use Rattle.laws.specs.Tests.{tick, anyOf, first}
 use Rattle.laws.specs.declared.Found.{Found}
 use Rattle.laws.specs.declared.Found.the-variants.{At, Nothing}
 use Rattle.machine.specs.Pages.{pageStart}
@@ -28,7 +28,7 @@ overlaps x y = isLive x && (isLive y && (eqb (x .owner) (y .owner) && (holds x (
 -- ---- removal
 -- a slot, emptied where the test takes it
 abbrev pub emptiedBy : (Slot → Bool) → Slot → Slot
-emptiedBy test x = pick (test x) noSlot x
+emptiedBy test x = cond (test x) noSlot x
 
 abbrev pub removed : (Slot → Bool) → List Slot → List Slot
 removed test s = map (emptiedBy test) s

@@ -1,12 +1,12 @@
 -- Document 01, "The ledger": the plain machine of demand 3. Its own text: it shares with the unit the decoded command and nothing else.
 -- Assumes nothing.
 use Prim.Native.Nat.{ℕ, zero, suc, _+_, _*_, _-_, _/_, _%_, _^_}
-use mathlib.Core.Bool.{Bool, true, not, _&&_, _||_, Bool·beq}
+use mathlib.Core.Bool.{Bool, true, not, cond, _&&_, _||_, Bool·beq}
 use mathlib.Core.Option.{Option, none, some}
 use mathlib.Core.List.{List, [], _∷_, _++_}
 use lib.Dec.{eqb, leb, ltb}
 use lib.ListN.{length, getD, take, drop}
-use Rattle.laws.specs.Tests.{pick, tick, count, without, find}
+use Rattle.laws.specs.Passing.{howMany, nonePasses, without, find}
 use Rattle.machine.specs.declared.Command.{Command}
 use Rattle.machine.specs.declared.Command.the-variants as command
 
@@ -26,21 +26,21 @@ pub record Ledger : Type 0 where
 
 -- "It starts with the reset values and empty lists"
 abbrev pub start : Ledger
-start = record { registers = λ strand number. pick (eqb number 3) 2 0; entries = λ side. [] }
+start = record { registers = λ strand number. cond (eqb number 3) 2 0; entries = λ side. [] }
 
 abbrev pub writes : Ledger → ℕ → ℕ → ℕ → Ledger
 writes l strand number value = record {
-  registers = λ s r. pick (eqb s strand && eqb r number) value (l .registers s r);
+  registers = λ s r. cond (eqb s strand && eqb r number) value (l .registers s r);
   entries = l .entries;
 }
 
 abbrev pub withEntries : Ledger → ℕ → List Entry → Ledger
-withEntries l side m = record { registers = l .registers; entries = λ k. pick (eqb k side) m (l .entries k) }
+withEntries l side m = record { registers = l .registers; entries = λ k. cond (eqb k side) m (l .entries k) }
 
 -- ---- pages and words
 -- bytes of a page by size code
 abbrev pub codeBytes : ℕ → ℕ
-codeBytes code = pick (eqb code 0) 0x2000 (pick (eqb code 1) 0x1_0000 (pick (eqb code 3) 0x40_0000 0x1000_0000))
+codeBytes code = cond (eqb code 0) 0x2000 (cond (eqb code 1) 0x1_0000 (cond (eqb code 3) 0x40_0000 0x1000_0000))
 
 abbrev pub pageBytes : ℕ → ℕ
 pageBytes word = codeBytes (word % 16)
@@ -82,18 +82,18 @@ registerWritable r = leb r 5 || (leb 8 r && leb r 21)
 
 abbrev pub valueGood : ℕ → ℕ → Bool
 valueGood r v =
-    pick (eqb r 0) (leb v 7)
-    (pick (eqb r 1 || eqb r 2) (leb v 8191)
-    (pick (eqb r 3) (leb v 2)
-    (pick (eqb r 4) (leb v 3)
-    (pick (eqb r 5) (leb v 1)
-    (pick (leb 8 r && leb r 15) (eqb (v / 16 % 512) 0)
-    (pick (leb 16 r && leb r 19) (eqb v (v % 8 + v / 256 % 8 * 256) && (codeListed (v % 8) && codeListed (v / 256 % 8)))
+    cond (eqb r 0) (leb v 7)
+    (cond (eqb r 1 || eqb r 2) (leb v 8191)
+    (cond (eqb r 3) (leb v 2)
+    (cond (eqb r 4) (leb v 3)
+    (cond (eqb r 5) (leb v 1)
+    (cond (leb 8 r && leb r 15) (eqb (v / 16 % 512) 0)
+    (cond (leb 16 r && leb r 19) (eqb v (v % 8 + v / 256 % 8 * 256) && (codeListed (v % 8) && codeListed (v / 256 % 8)))
     true))))))
 
 -- "Selector 0 primary, 1 secondary, 2 nucleus (context 0)"
 abbrev pub contextPicked : Ledger → ℕ → ℕ → ℕ
-contextPicked l strand selector = pick (eqb selector 0) (l .registers strand 1) (pick (eqb selector 1) (l .registers strand 2) 0)
+contextPicked l strand selector = cond (eqb selector 0) (l .registers strand 1) (cond (eqb selector 1) (l .registers strand 2) 0)
 
 abbrev pub tagOf : Ledger → ℕ → ℕ → ℕ
 tagOf l strand side = l .registers strand (20 + side)
@@ -122,6 +122,10 @@ pub record Name : Type 0 where
   pub place : ℕ
   pub word : ℕ
 
+-- 1 for yes, 0 for no
+abbrev pub oneIf : Bool → ℕ
+oneIf b = cond b 1 0
+
 -- a value of bytes, big-endian
 unfoldable pub valueFrom : ℕ → List ℕ → ℕ
 valueFrom high [] = high
@@ -139,7 +143,7 @@ nameIn answer = record {
 unfoldable pub isNamed : Name → Entry → Bool
 isNamed d e =
     eqb (d .partition) (e .partition)
-    && (eqb (d .real) (tick (e .real)) && (eqb (d .place) (e .page + e .context) && eqb (d .word) (e .word)))
+    && (eqb (d .real) (oneIf (e .real)) && (eqb (d .place) (e .page + e .context) && eqb (d .word) (e .word)))
 
 -- ---- "It puts questions 5 to 13 below to its own registers and lists"
 -- "Insertion takes the strand's partition and tag access, its address rounded down to the word's page."
@@ -150,7 +154,7 @@ newEntry l strand side flags word =
     record {
       partition = l .registers strand 0;
       real = eqb (flags % 2) 1;
-      context = pick (eqb (flags % 2) 1) 0 (tag % 8192);
+      context = cond (eqb (flags % 2) 1) 0 (tag % 8192);
       page = address - address % pageBytes word;
       locked = leb 2 flags;
       word = word;
@@ -159,7 +163,7 @@ newEntry l strand side flags word =
 -- the numbers that a list of questions may answer, each with whether it is answered well; 0 where all are
 unfoldable pub firstNo : List (ℕ × Bool) → ℕ
 firstNo [] = 0
-firstNo (q ∷ qs) = pick (q .1) (firstNo qs) (q .0)
+firstNo (q ∷ qs) = cond (q .1) (firstNo qs) (q .0)
 
 abbrev pub selectorGood : ℕ → ℕ → Bool
 selectorGood side selector = leb selector 2 && not (eqb selector 1 && eqb side 0)
@@ -177,14 +181,14 @@ questions l (command.DemapAll strand side) = (5, leb strand 3) ∷ (6, leb side 
 questions l (command.Invalidate side) = (6, leb side 1) ∷ []
 questions l (command.Access strand kind selector size address) =
     (5, leb strand 3) ∷ (6, leb kind 4)
-    ∷ (7, selectorGood (pick (eqb kind 0) 0 1) selector && not (eqb selector 2 && (eqb (l .registers strand 3) 0 && eqb kind 0)))
+    ∷ (7, selectorGood (cond (eqb kind 0) 0 1) selector && not (eqb selector 2 && (eqb (l .registers strand 3) 0 && eqb kind 0)))
     ∷ (8, leb size 3 && (not (eqb kind 0) || eqb size 2)) ∷ []
 questions l (command.Read strand number) = (5, leb strand 3) ∷ (9, registerKnown number) ∷ []
 questions l (command.Pointers strand side) = (5, leb strand 3) ∷ (6, leb side 1) ∷ []
 
 -- 13: "not 64 live, locked and none overlapped"
 abbrev pub lacksSlot : ℕ → Entry → List Entry → Bool
-lacksSlot n e m = eqb (length m) n && (eqb (count unlocked m) 0 && eqb (count (overlap e) m) 0)
+lacksSlot n e m = eqb (length m) n && (nonePasses unlocked m && nonePasses (overlap e) m)
 
 -- ---- insertion, demaps and invalidation
 -- "it strikes the one named, which must be live and unlocked"; with no such entry there is no answer
@@ -192,20 +196,20 @@ abbrev pub displaces : Ledger → ℕ → Entry → Name → Option Entry → Wr
 displaces l side e d none = answers l []
 displaces l side e d (some x) =
     answers (withEntries l side (without (isNamed d) (l .entries side) ++ (e ∷ [])))
-    (line 4 0 (x .partition) (tick (x .real)) (x .page + x .context) (x .word))
+    (line 4 0 (x .partition) (oneIf (x .real)) (x .page + x .context) (x .word))
 
 -- "Insertion strikes those it overlaps; where 64 were live, none overlapped and one at least was unlocked, it strikes the one named. Then it appends itself."
 unfoldable pub inserts : ℕ → Ledger → ℕ → Entry → Name → Written
 inserts n l side e d =
     let m : List Entry = l .entries side in
-    pick (lacksSlot n e m) (answers l (line 5 13 0 0 0 0))
-    (pick (eqb (length m) n && eqb (count (overlap e) m) 0)
+    cond (lacksSlot n e m) (answers l (line 5 13 0 0 0 0))
+    (cond (eqb (length m) n && nonePasses (overlap e) m)
     (displaces l side e d (find (λ x. isNamed d x && unlocked x) m))
     (answers (withEntries l side (without (overlap e) m ++ (e ∷ []))) (line 0 0 0 0 0 0)))
 
 -- "for a demap the count struck"
 abbrev pub demaps : Ledger → ℕ → (Entry → Bool) → Written
-demaps l side p = answers (withEntries l side (without p (l .entries side))) (line 0 0 0 0 (count p (l .entries side)) 0)
+demaps l side p = answers (withEntries l side (without p (l .entries side))) (line 0 0 0 0 (howMany p (l .entries side)) 0)
 
 -- of a partition and a realness and, if virtual, a context, and its page holds the address
 unfoldable pub isAt : ℕ → Bool → ℕ → ℕ → Entry → Bool
@@ -229,10 +233,10 @@ pub record Asked : Type 0 where
 
 -- "With the mask 1 and mode 0 or 1 the address is first taken modulo 2^32."
 abbrev pub usedAddress : Ledger → ℕ → ℕ → ℕ
-usedAddress l strand address = pick (eqb (l .registers strand 5) 1 && not (eqb (l .registers strand 3) 2)) (address % 0x1_0000_0000) address
+usedAddress l strand address = cond (eqb (l .registers strand 5) 1 && not (eqb (l .registers strand 3) 2)) (address % 0x1_0000_0000) address
 
 abbrev pub askedSide : Asked → ℕ
-askedSide a = pick (eqb (a .kind) 0) 0 1
+askedSide a = cond (eqb (a .kind) 0) 0 1
 
 abbrev pub translationOn : Ledger → Asked → Bool
 translationOn l a = eqb (l .registers (a .strand) 4 / 2 ^ askedSide a % 2) 1
@@ -248,13 +252,13 @@ plainTrap l a number = answers (faults l a number 0) (line 2 number 0 0 (a .used
 -- a trap that writes tag access: "the address used and the selected context, or context 0 when translation is off for the side"
 unfoldable pub taggedTrap : Ledger → Asked → ℕ → ℕ → Written
 taggedTrap l a number type =
-    let tag : ℕ = a .used - a .used % 8192 + pick (translationOn l a) (contextPicked l (a .strand) (a .selector)) 0 in
+    let tag : ℕ = a .used - a .used % 8192 + cond (translationOn l a) (contextPicked l (a .strand) (a .selector)) 0 in
     answers (writes (faults l a number type) (a .strand) (20 + askedSide a) tag) (line 2 number type 0 (a .used) tag)
 
 -- the steps in order: the first whose condition holds
 unfoldable pub firstFit : List (Bool × Written) → Written → Written
 firstFit [] last = last
-firstFit (s ∷ ss) last = pick (s .0) (s .1) (firstFit ss last)
+firstFit (s ∷ ss) last = cond (s .0) (s .1) (firstFit ss last)
 
 -- steps 1 to 4: whether the access ends before the lookup
 unfoldable pub earlySteps : Ledger → Asked → List (Bool × Written)
@@ -262,9 +266,13 @@ earlySteps l a =
     let mode : ℕ = l .registers (a .strand) 3 in
     (not (eqb (a .used % 2 ^ a .size) 0), plainTrap l a 0x34)
     ∷ (eqb mode 0 && (eqb (askedSide a) 1 && eqb (a .selector) 2), plainTrap l a 0x37)
-    ∷ (eqb mode 2, answers l (line 1 (pick (eqb (bit 39 (a .used)) 0) 1 2) 0 0 (a .used % 0x100_0000_0000) 0))
-    ∷ (not (addressGood (a .used)), taggedTrap l a (pick (eqb (a .kind) 0) 0x08 0x30) 0x20)
+    ∷ (eqb mode 2, answers l (line 1 (cond (eqb (bit 39 (a .used)) 0) 1 2) 0 0 (a .used % 0x100_0000_0000) 0))
+    ∷ (not (addressGood (a .used)), taggedTrap l a (cond (eqb (a .kind) 0) 0x08 0x30) 0x20)
     ∷ []
+
+-- "Every access that looks up": none of them ends it
+abbrev pub looksUp : Ledger → Asked → Bool
+looksUp l a = nonePasses (λ s. s .0) (earlySteps l a)
 
 -- step 5: the live entries that the lookup may find
 abbrev pub foundBy : Ledger → Asked → Entry → Bool
@@ -274,7 +282,7 @@ foundBy l a = isAt (l .registers (a .strand) 0) (not (translationOn l a)) (conte
 unfoldable pub misses : Ledger → Asked → Written
 misses l a =
     taggedTrap l a
-    (pick (eqb (a .kind) 0) (pick (translationOn l a) 0x64 0x3E) (pick (translationOn l a) 0x68 0x3F))
+    (cond (eqb (a .kind) 0) (cond (translationOn l a) 0x64 0x3E) (cond (translationOn l a) 0x68 0x3F))
     0
 
 -- steps 6 to 8 on the entry found
@@ -283,12 +291,12 @@ hits l a e =
     let word : ℕ = e .word in
     let address : ℕ = word / 2 ^ 13 % 2 ^ 43 * 2 ^ 13 in
     let type : ℕ =
-    pick (eqb (l .registers (a .strand) 3) 0) (bit 8 word) 0
-    + pick (eqb (a .kind) 4) (2 * bit 11 word) 0
-    + pick (eqb (a .kind) 3) (4 * (1 - bit 10 word)) 0
-    + pick (eqb (a .kind) 4) 0 (0x10 * bit 62 word) in
+    cond (eqb (l .registers (a .strand) 3) 0) (bit 8 word) 0
+    + cond (eqb (a .kind) 4) (2 * bit 11 word) 0
+    + cond (eqb (a .kind) 3) (4 * (1 - bit 10 word)) 0
+    + cond (eqb (a .kind) 4) 0 (0x10 * bit 62 word) in
     firstFit
-    ((not (eqb type 0), taggedTrap l a (pick (eqb (a .kind) 0) 0x08 0x30) type)
+    ((not (eqb type 0), taggedTrap l a (cond (eqb (a .kind) 0) 0x08 0x30) type)
     ∷ (eqb (bit 6 word) 0 && (eqb (a .kind) 2 || eqb (a .kind) 3), taggedTrap l a 0x6C 0)
     ∷ [])
     (answers l (line 1 (bit 10 word + 2 * bit 11 word + 4 * bit 12 word) 0 0 (address - address % pageBytes word + a .used % pageBytes word) 0))
@@ -310,7 +318,7 @@ pointerOf base code address = base - base % 2 ^ (13 + base % 16) + address / cod
 unfoldable pub pointers : Ledger → ℕ → ℕ → Written
 pointers l strand side =
     let tag : ℕ = tagOf l strand side in
-    let other : ℕ = pick (eqb (tag % 8192) 0) 0 1 in
+    let other : ℕ = cond (eqb (tag % 8192) 0) 0 1 in
     let configuration : ℕ = l .registers strand (16 + 2 * side + other) in
     let base : ℕ → ℕ = λ k. l .registers strand (8 + 4 * side + 2 * other + k) in
     answers l (line 3 0 0 0 (pointerOf (base 0) (configuration % 8) (tag - tag % 8192)) (pointerOf (base 1) (configuration / 256 % 8) (tag - tag % 8192)))
@@ -333,4 +341,4 @@ does n l (command.Pointers strand side) d = pointers l strand side
 unfoldable pub enters : (ℕ → ℕ) → Ledger → Command → Name → Written
 enters n l c d =
     let number : ℕ = firstNo (questions l c) in
-    pick (eqb number 0) (does n l c d) (answers l (line 5 number 0 0 0 0))
+    cond (eqb number 0) (does n l c d) (answers l (line 5 number 0 0 0 0))

@@ -10,7 +10,12 @@ pub mod Access
 pub mod Step
 pub mod Stream
 pub mod Ledger
+pub mod Places
 pub mod Demand3
+pub mod Good
+pub mod Reference
+pub mod Demand1
+pub mod Demand2
 pub mod Examples
 pub mod Frame
 pub mod Unseen

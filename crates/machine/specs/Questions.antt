@@ -4,7 +4,6 @@ use Prim.Native.Nat.{ℕ, _%_, _/_}
 use mathlib.Core.Bool.{Bool, true, false, not, cond, _&&_, _||_}
 use mathlib.Core.List.{List, [], _∷_}
 use lib.Dec.{eqb, ltb}
-use Rattle.laws.specs.Tests.{pick}
 use Rattle.machine.specs.Pages.{inRange}
 use Rattle.machine.specs.Words.{wordInsertable}
 use Rattle.machine.specs.Registers.{partition, mode, tagAccess, tagAddress, tagContext, known, writable, allowed}
@@ -35,7 +34,7 @@ refusalNumber refusal.NoSlot = 13
 -- ---- what the questions speak of
 -- the side of an access: a fetch is kind 0
 abbrev pub kindSide : ℕ → ℕ
-kindSide kind = pick (eqb kind 0) 0 1
+kindSide kind = cond (eqb kind 0) 0 1
 
 -- flags of an insertion: 1 real, 2 locked; of a demap page: 1 real
 abbrev pub flagReal : ℕ → Bool

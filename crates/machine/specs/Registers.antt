@@ -5,7 +5,7 @@ use mathlib.Core.Bool.{Bool, true, false, cond, _&&_}
 use mathlib.Core.List.{List, [], _∷_}
 use lib.Dec.{eqb, ltb}
 use lib.ListN.{length, getD, set}
-use Rattle.laws.specs.Tests.{pick, allBelow}
+use Rattle.laws.specs.Tests.{allBelow}
 use Rattle.machine.specs.Pages.{listed}
 use Rattle.machine.specs.Words.{bits}
 
@@ -38,11 +38,11 @@ addressMask file strand = register file strand 5
 
 -- "8 + 4 × side + 2 × (1 if context is not zero) + (0 for ps0, 1 for ps1)"
 abbrev pub baseNumber : ℕ → ℕ → ℕ → ℕ
-baseNumber side context size = 8 + 4 * side + 2 * pick (eqb context 0) 0 1 + size
+baseNumber side context size = 8 + 4 * side + 2 * cond (eqb context 0) 0 1 + size
 
 -- "16 + 2 × side + (1 if context is not zero)"
 abbrev pub configurationNumber : ℕ → ℕ → ℕ
-configurationNumber side context = 16 + 2 * side + pick (eqb context 0) 0 1
+configurationNumber side context = 16 + 2 * side + cond (eqb context 0) 0 1
 
 abbrev pub tagNumber : ℕ → ℕ
 tagNumber side = 20 + side
@@ -69,7 +69,7 @@ faultNumber side = 24 + side
 
 -- "Selector 0 primary, 1 secondary, 2 nucleus (context 0)"
 abbrev pub selected : List ℕ → ℕ → ℕ → ℕ
-selected file strand selector = pick (eqb selector 2) 0 (register file strand (pick (eqb selector 1) 2 1))
+selected file strand selector = cond (eqb selector 2) 0 (register file strand (cond (eqb selector 1) 2 1))
 
 -- ---- numbers and values, by ranges from below
 -- 0 to 5 and 8 to 25

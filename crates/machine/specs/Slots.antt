@@ -2,11 +2,11 @@
 -- Assumes nothing.
 use Prim.Native.Nat.{ℕ, _+_, _*_, _/_, _%_, _^_}
 use mathlib.Core.List.{List, [], _∷_, map}
-use mathlib.Core.Bool.{Bool, true, false, _&&_}
+use mathlib.Core.Bool.{Bool, true, false, cond, _&&_}
 use lib.Dec.{eqb}
 use lib.ListN.{getD, set}
 use lib.Seq.{sets}
-use Rattle.laws.specs.Tests.{pick, tick, first}
+use Rattle.laws.specs.Tests.{tick, first}
 use Rattle.laws.specs.declared.Found.{Found}
 use Rattle.machine.specs.Pages.{pageStart, pageOffset}
 use Rattle.machine.specs.declared.Slot.{Slot}
@@ -92,7 +92,7 @@ holds x address = eqb (pageStart (sizeCode x) address) (x .page)
 
 -- an address against the page
 unfoldable pub pageMatch : Slot → ℕ → PageMatch
-pageMatch x address = pick (holds x address) (Within (sizeCode x) (pageOffset (sizeCode x) address)) Outside
+pageMatch x address = cond (holds x address) (Within (sizeCode x) (pageOffset (sizeCode x) address)) Outside
 
 -- a live entry of the key's owner whose page holds the key's address
 unfoldable pub answersTo : Key → Slot → Bool

@@ -6,7 +6,6 @@ use mathlib.Core.Bool.{Bool, cond, _&&_}
 use mathlib.Core.List.{List, _++_}
 use lib.Dec.{eqb}
 use lib.ListN.{length, take, drop, replicate}
-use Rattle.laws.specs.Tests.{pick}
 use Rattle.machine.specs.Registers.{registerWords, registersSound, resetRegisters}
 use Rattle.machine.specs.Slots.{slotsOf, wordsOf, noSlot}
 use Rattle.machine.specs.Sound.{sideSound}
@@ -21,8 +20,9 @@ pub record Counts : Type 0 where
 abbrev pub counts : Counts
 counts = record { itlb = 64; dtlb = 64 }
 
+-- of a side, as the claims speak of it
 abbrev pub slotCount : Counts → ℕ → ℕ
-slotCount n side = pick (eqb side 0) (n .itlb) (n .dtlb)
+slotCount n side = cond (eqb side 0) (n .itlb) (n .dtlb)
 
 pub record State : Type 0 where
   pub registers : List ℕ
@@ -30,10 +30,10 @@ pub record State : Type 0 where
   pub dtlb : List Slot
 
 abbrev pub sideOf : State → ℕ → List Slot
-sideOf u side = pick (eqb side 0) (u .itlb) (u .dtlb)
+sideOf u side = cond (eqb side 0) (u .itlb) (u .dtlb)
 
 abbrev pub withSide : State → ℕ → List Slot → State
-withSide u side s = record { registers = u .registers; itlb = pick (eqb side 0) s (u .itlb); dtlb = pick (eqb side 0) (u .dtlb) s }
+withSide u side s = record { registers = u .registers; itlb = cond (eqb side 0) s (u .itlb); dtlb = cond (eqb side 0) (u .dtlb) s }
 
 abbrev pub withRegisters : State → List ℕ → State
 withRegisters u file = record { registers = file; itlb = u .itlb; dtlb = u .dtlb }

@@ -1,11 +1,18 @@
 // What a buyer must believe: the declared types, the definitions in specs/ and the theorems on them.
 ghost use mathlib.Core.Path.{_≡_};
-ghost use Rattle.machine.specs.State.{Counts};
+ghost use lib.ListN.{length};
+ghost use Rattle.machine.specs.State.{Counts, counts};
+ghost use Rattle.machine.specs.Stream.{answerBytes};
+ghost use Rattle.machine.specs.declared.Answer.{Answer};
+ghost use Rattle.machine.specs.Demand1.{Demand1};
+ghost use Rattle.machine.specs.Demand2.{Demand2};
 ghost use Rattle.machine.specs.Demand3.{Demand3, Described};
+ghost use Rattle.machine.specs.Places.{slots};
+ghost use Rattle.machine.specs.Reference.{Told};
 ghost use Rattle.machine.specs.Frame.{Framed, SoundKept};
 ghost use Rattle.machine.specs.Examples.{Starred, PrintedRun};
 ghost use Rattle.machine.specs.Unseen.{Unseen};
-ghost use Rattle.machine.specs.Format.{Decodes};
+ghost use Rattle.machine.specs.Format.{Readable, Decodes};
 
 // The three kinds of address. None is read for another: each crossing is a function with a name.
 pub struct VirtualAddress(pub u64);
@@ -255,9 +262,13 @@ pub struct Run {
 
 // The bytes of an answer. The other clauses hold only while their theorems are proved, so the gate asks for them.
 pub fn answer_width() -> usize
-    ensures width { λ r. ⌜ r ≡ 24 ⌝ }
+    ensures width { λ r. ⌜ (r ≡ 24) × ((a : Answer) → length (answerBytes a) ≡ r) ⌝ }
+    ensures told { λ r. ⌜ Told counts slots ⌝ }
+    ensures readable { λ r. ⌜ Readable ⌝ }
+    ensures demand1 { λ r. ⌜ Demand1 ⌝ }
+    ensures demand2 { λ r. ⌜ Demand2 ⌝ }
     ensures demand3 { λ r. ⌜ ((n : Counts) → Demand3 n) ⌝ }
-    ensures described { λ r. ⌜ Described ⌝ }
+    ensures described { λ r. ⌜ ((n : Counts) → Described n) ⌝ }
     ensures sound { λ r. ⌜ SoundKept ⌝ }
     ensures framed { λ r. ⌜ Framed ⌝ }
     ensures unseen { λ r. ⌜ Unseen ⌝ }

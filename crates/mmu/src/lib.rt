@@ -1,6 +1,6 @@
 // One command on the state: its questions, then what it does and answers.
 ghost use mathlib.Core.Path.{_≡_};
-ghost use mathlib.Core.Bool.{true};
+ghost use mathlib.Core.Bool.{true, cond};
 ghost use Prim.Native.Nat.{_+_, _*_, _^_, _<_};
 ghost use lib.ListN.{length};
 ghost use Rattle.machine.specs.Words.{bits};
@@ -10,7 +10,6 @@ ghost use Rattle.machine.specs.Questions.{verdict};
 ghost use Rattle.machine.specs.Step.{displacedOf, placedAnswer, demap, tsbOffset, tsbPointer, pointer, act, step};
 ghost use Rattle.machine.specs.declared.Command.the-variants as command;
 ghost use Rattle.machine.specs.declared.Verdict.the-variants.{Passed};
-ghost use Rattle.laws.specs.Tests.{pick};
 ghost use Rattle.mmu.specs.Fits.{PlaceFits, Ready};
 ghost use lib.Dec.{eqb};
 use machine::Access;
@@ -89,7 +88,7 @@ fn tsb_pointer(base: u64, code: u64, address: u64) -> u64
 
 // 1 where a context is not zero: it picks among the base and configuration registers.
 fn other_set(context: u64) -> u8
-    ensures { λ r. ⌜ (r ≡ pick (eqb context 0) 0 1) × (r < 2) ⌝ }
+    ensures { λ r. ⌜ (r ≡ cond (eqb context 0) 0 1) × (r < 2) ⌝ }
 {
     if context == 0 {
         return 0;

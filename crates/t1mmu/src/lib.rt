@@ -1,10 +1,16 @@
 // The calls that a buyer links from C or Rust. Nothing is asked of the numbers and lengths that a caller gives; every result, state word and
-// output byte is by a definition. A slice is a pointer and a length to C; with length 0 the pointer is not read.
+// output byte is by a definition of the unit, and again by the second texts (told). A slice is a pointer and a length to C; with length 0 the pointer is not read.
 ghost use mathlib.Core.Path.{_≡_};
 ghost use mathlib.Core.Bool.{true};
+ghost use lib.ListN.{length};
 ghost use Rattle.machine.specs.State.{counts, stateWords, resetOf, resetNumber};
-ghost use Rattle.machine.specs.Stream.{outcome, runOf};
+ghost use Rattle.machine.specs.Stream.{runOf};
 ghost use Rattle.machine.specs.Words.{unpacked, packed, fields};
+ghost use Rattle.machine.specs.Places.{slots, referenceStart, referenceWords};
+ghost use Rattle.machine.specs.Reference.{RunTold, ResetTold};
+ghost use Rattle.machine.specs.Demand2.{IsBits, HasBits, Fields};
+ghost use Rattle.machine.specs.Demand3.{Demand3};
+ghost use Rattle.t1mmu.specs.Equal.{Equal};
 ghost use Rattle.t1mmu.specs.Version.{version};
 use machine::Run;
 use machine::Tte;
@@ -17,10 +23,11 @@ pub extern "C" fn t1mmu_version() -> u32
     0x01_00_00
 }
 
-// How many words a state has.
+// How many words a state has: those of an empty ledger with its places.
 #[no_mangle]
 pub extern "C" fn t1mmu_state_words() -> usize
-    ensures { λ r. ⌜ r ≡ stateWords counts ⌝ }
+    ensures equal { λ r. ⌜ r ≡ stateWords counts ⌝ }
+    ensures told { λ r. ⌜ r ≡ length (referenceWords (referenceStart slots)) ⌝ }
 {
     640
 }
@@ -30,15 +37,20 @@ pub extern "C" fn t1mmu_state_words() -> usize
 pub extern "C" fn t1mmu_reset(state: &mut [u64]) -> u8
     ensures words { λ r. ⌜ now (state .exit) ≡ resetOf counts (now (state .entry)) ⌝ }
     ensures number { λ r. ⌜ r ≡ resetNumber counts (now (state .entry)) ⌝ }
+    ensures told { λ r. ⌜ ResetTold slots (now (state .entry)) (now (state .exit)) r ⌝ }
 {
     state::reset(state)
 }
 
-// Runs the commands of the input on the state.
+// Runs the commands of the input on the state. `told` holds it to the ledger with its places, in no word of the unit; `equal` to the unit's
+// definition, of which `demand3` speaks.
 #[no_mangle]
 pub extern "C" fn t1mmu_run(state: &mut [u64], input: &[u8], output: &mut [u8]) -> Run
-    ensures { λ r. ⌜ outcome (now (state .exit)) (now (output .exit)) r
-        ≡ runOf counts (now (state .entry)) (now (input .entry)) (now (output .entry)) ⌝ }
+    ensures told { λ r. ⌜ RunTold slots (now (state .entry)) (now (input .entry)) (now (output .entry))
+        (now (state .exit)) (now (output .exit)) r ⌝ }
+    ensures equal { λ r. ⌜ Equal (runOf counts (now (state .entry)) (now (input .entry)) (now (output .entry)))
+        (now (state .exit)) (now (output .exit)) r ⌝ }
+    ensures demand3 { λ r. ⌜ Demand3 counts ⌝ }
 {
     stream::run(state, input, output)
 }
@@ -48,15 +60,17 @@ pub extern "C" fn t1mmu_run(state: &mut [u64], input: &[u8], output: &mut [u8]) 
 pub extern "C" fn t1mmu_unpack(word: u64) -> Tte
     ensures fields { λ r. ⌜ r ≡ unpacked word ⌝ }
     ensures again { λ r. ⌜ packed r ≡ word ⌝ }
+    ensures told { λ r. ⌜ Fields (IsBits word) r ⌝ }
 {
     tte::unpack(word)
 }
 
-// The entry word of the fields. Where each fits its width, unpacked again they are the fields.
+// The entry word of the fields; what does not fit its width is dropped. Where each fits, unpacked again they are the fields.
 #[no_mangle]
 pub extern "C" fn t1mmu_pack(t: Tte) -> u64
     ensures word { λ r. ⌜ r ≡ packed t ⌝ }
     ensures again { λ r. ⌜ (fields t ≡ true → unpacked r ≡ t) ⌝ }
+    ensures told { λ r. ⌜ Fields (HasBits r) t ⌝ }
 {
     tte::pack(t)
 }

@@ -2,7 +2,13 @@
 use mathlib.Core.Path.{refl}
 use Rattle.machine.specs.Frame.{Framed, SoundKept}
 use Rattle.machine.proofs.State.{reset-sound, step-sound}
-use Rattle.machine.proofs.Demand3.{demand3, described}
+use Rattle.machine.proofs.Bytes.{answer-length}
+use Rattle.machine.proofs.Demand1.{demand1}
+use Rattle.machine.proofs.Demand2.{demand2}
+use Rattle.machine.proofs.Demand3.{demand3}
+use Rattle.machine.proofs.Good.{described}
+use Rattle.machine.proofs.Readable.{readable}
+use Rattle.machine.proofs.Reference.{told}
 use Rattle.machine.proofs.Examples.{starred}
 use Rattle.machine.proofs.Format.{decodes}
 use Rattle.machine.proofs.Frame.{frame}
@@ -20,7 +26,8 @@ unfolding Framed
 framed = frame
 
 returns : tie.Need-returns
-returns c = (refl, (demand3, (described, (kept, (framed, (unseen, (decodes, (starred, printed-run))))))))
+returns c =
+    ((refl, answer-length), (told, (readable, (demand1, (demand2, (demand3, (described, (kept, (framed, (unseen, (decodes, (starred, printed-run))))))))))))
 
 pub answer-width-spec : {M : Type 1} → statement M
 answer-width-spec = tie.close (tie.spec returns)

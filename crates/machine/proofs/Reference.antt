@@ -1,0 +1,176 @@
+-- The ledger with its places, fed the bytes alone, does what it does when it is fed the unit's names: the unit's runs are told by it. Assumes nothing.
+use Prim.Native.Nat.{ℕ, _*_, _≤_}
+use mathlib.Core.Path.{_≡_, refl, ap, ap₂, sym, subst, fun-ext, _∙_}
+use mathlib.Core.Bool.{true, _&&_}
+use mathlib.Core.Option.{some}
+use mathlib.Core.List.{List, [], _∷_, _++_}
+use native.Mathlib.Omega.{arith}
+use lib.Dec.{eqb}
+use lib.ListN.{length, take, drop, take-append-drop}
+use borrow.Author.Tests.{eq-eqb, ne-eqb, eqb-true, eqb-false}
+use Rattle.laws.specs.Passing.{howMany, nonePasses}
+use Rattle.laws.proofs.Bools.{by-test, clash, and-both, and-left, and-right}
+use Rattle.machine.specs.State.{Counts, counts, slotCount, stateWords, State, stateOf, encode, sound, wordsSound, reset, resetOf, resetNumber}
+use Rattle.machine.specs.Stream.{Bytes, Outcome, after, answersBytes, runOf}
+use Rattle.machine.specs.Ledger.{Entry, Ledger, overlap, unlocked, Name, nameIn, isNamed, newEntry, firstNo, questions, lacksSlot, Written, inserts, does, enters}
+use Rattle.machine.specs.Places.{slots, Reference, placesAfter, referenceStart, referenceWords}
+use Rattle.machine.specs.Format.{Reading, ReadAs}
+use Rattle.machine.specs.Demand3.{unitBytes, fedNext, fedAfter, ledgerBytes, Event, run}
+use Rattle.machine.specs.Good.{ReferenceGood}
+use Rattle.machine.specs.Reference.{nameOf, displacedName, referenceNext, referenceAfter, referenceBytes, Leaves, RunTold, ResetTold, returned, EventsTold, Told}
+use Rattle.machine.specs.declared.Command.{Command}
+use Rattle.machine.specs.declared.Command.the-variants as command
+use Rattle.machine.proofs.State.{reset-sound, sound-encode, words-sound}
+use Rattle.machine.proofs.Runs.{run-unsound}
+use Rattle.machine.proofs.Alike.{ReferenceAlike}
+use Rattle.machine.proofs.Demand3.{step-says, alike-sound, alike-words, commands-agree, read-words, read-answered, read-taken, read-stop, read-front, read-past, start-alike}
+use Rattle.machine.proofs.Good.{alike-good, stateFor, good-alike, described}
+
+ruleset conj = (and-left, and-right, eqb-true)
+
+-- ---- one command
+-- a name is that of one entry
+name-is : (d : Name) (e : Entry) → isNamed d e ≡ true → d ≡ nameOf (some e)
+unfolding isNamed
+name-is d e h =
+    let a : d .partition ≡ nameOf (some e) .partition = search conj in
+    let b : d .real ≡ nameOf (some e) .real = search conj in
+    let c : d .place ≡ nameOf (some e) .place = search conj in
+    let f : d .word ≡ nameOf (some e) .word = search conj in
+    λ i. record { partition = a i; real = b i; place = c i; word = f i }
+
+-- the ledger reads a name only where it displaces
+name-read : (n : ℕ) (l : Ledger) (side : ℕ) (e : Entry) {d c : Name}
+    → ((length (l .entries side) ≡ n) × (howMany (overlap e) (l .entries side) ≡ 0) × (1 ≤ howMany unlocked (l .entries side)) → d ≡ c)
+    → inserts n l side e d ≡ inserts n l side e c
+unfolding inserts
+name-read n l side e {d} {c} k =
+    let m : List Entry = l .entries side in
+    by-test (lacksSlot n e m) (λ t. rw t) (λ t. by-test (eqb (length m) n && nonePasses (overlap e) m)
+    (λ f.
+    let full : length m ≡ n = search conj in
+    let apart : howMany (overlap e) m ≡ 0 = search conj in
+    let free : 1 ≤ howMany unlocked m = by-test (nonePasses unlocked m)
+    (λ z. clash (and-both _ _ (eq-eqb _ _ full) (and-both _ _ z (eq-eqb _ 0 apart))) t)
+    (λ z. omega (arith, eqb-false (howMany unlocked m) 0 z)) in
+    ap (λ (x : Name). inserts n l side e x) (k (full, apart, free)))
+    (λ f. rw (t, f)))
+
+module _ {n : Counts} {u : State} {k : Reference} (h : ReferenceAlike n u k) where
+  own-entered : (c : Command) → enters (slotCount n) (k .ledger) c (nameIn (unitBytes u c)) ≡ enters (slotCount n) (k .ledger) c (displacedName k c)
+  unfolding enters does
+  own-entered (command.Write strand number value) = refl
+  own-entered (command.Insert strand side flags word) = by-test (eqb (firstNo (questions (k .ledger) (command.Insert strand side flags word))) 0)
+      (λ t. rw t (name-read (slotCount n side) (k .ledger) side (newEntry (k .ledger) strand side flags word) (λ z.
+      let s = step-says n u k (command.Insert strand side flags word) h .says (eqb-true _ 0 t) in
+      let (x, way, name, live, free) = s .named (s .displaced .1 z) in
+      name-is _ x name ∙ ap nameOf (sym way))))
+      (λ t. rw t)
+  own-entered (command.DemapPage strand side selector flags address) = refl
+  own-entered (command.DemapContext strand side selector) = refl
+  own-entered (command.DemapAll strand side) = refl
+  own-entered (command.Invalidate side) = refl
+  own-entered (command.Access strand kind selector size address) = refl
+  own-entered (command.Read strand number) = refl
+  own-entered (command.Pointers strand side) = refl
+
+  own-next : (c : Command) → fedNext n u k c ≡ referenceNext (slotCount n) k c
+  own-next c = ap (λ (w : Written). record { ledger = w .ledger; places = placesAfter (slotCount n) k c }) (own-entered c)
+
+-- ---- a list of commands
+own-agree : (n : Counts) (u : State) (k : Reference) (cs : List Command) → ReferenceAlike n u k
+    → (fedAfter n u k cs ≡ referenceAfter (slotCount n) k cs) × (ledgerBytes n u k cs ≡ referenceBytes (slotCount n) k cs)
+unfolding fedAfter referenceAfter ledgerBytes referenceBytes
+own-agree n u k [] h = (refl, refl)
+own-agree n u k (c ∷ cs) h =
+    let s = step-says n u k c h in
+    let (a, b) = own-agree n _ (fedNext n u k c) cs (s .alike) in
+    let e = own-next h c in (
+      a ∙ ap (λ (x : Reference). referenceAfter (slotCount n) x cs) e,
+      ap₂ (λ (x y : Bytes). x ++ y) (ap (λ (w : Written). w .bytes) (own-entered h c)) (b ∙ ap (λ (x : Reference). referenceBytes (slotCount n) x cs) e),
+    )
+
+-- ---- a run
+module _ (n : Counts) (k : Reference) (g : ReferenceGood (slotCount n) k) where
+  abbrev u : State
+  u = stateFor n k g
+
+  alike : ReferenceAlike n u k
+  alike = good-alike n k g
+
+  good-sound : sound n u ≡ true
+  good-sound = alike-sound n u (k .ledger) (alike .ledger)
+
+  next-good : (c : Command) → ReferenceGood (slotCount n) (referenceNext (slotCount n) k c)
+  next-good c = rw (own-next alike c) at (alike-good (step-says n u k c alike .alike))
+
+  module _ (input output : Bytes) (t : Reading) (x : ReadAs input (length output) t) where
+    abbrev cs : List Command
+    cs = t .commands
+
+    after-alike : ReferenceAlike n (after u cs) (referenceAfter (slotCount n) k cs)
+    after-alike = rw (own-agree n u k cs alike .0) at (commands-agree n u k cs alike .alike)
+
+    after-good : ReferenceGood (slotCount n) (referenceAfter (slotCount n) k cs)
+    after-good = alike-good after-alike
+
+    run-leaves :
+        let o : Outcome = runOf n (referenceWords k) input output in
+        Leaves (slotCount n) k input output t (o .words) (o .output) (returned o)
+    run-leaves =
+        let w : wordsSound n (encode u) ≡ true = words-sound n u good-sound in
+        let back : stateOf n (encode u) ≡ u = sound-encode n u good-sound in
+        let m : ℕ = length cs * 24 in
+        let o : Outcome = runOf n (encode u) input output in
+        let front : take m (o .output) ≡ answersBytes u cs = rw back at (read-front n (encode u) input output w t x) in
+        let past : drop m (o .output) ≡ drop m output = read-past n (encode u) input output w t x in
+        let words : o .words ≡ encode (after u cs) = rw back at (read-words n (encode u) input output w t x) in
+        rw (← (alike-words alike)) (record {
+          words = words ∙ alike-words after-alike;
+          bytes = sym (take-append-drop m (o .output)) ∙ rw (front, past, ← (commands-agree n u k cs alike .bytes), own-agree n u k cs alike .1);
+          answered = read-answered n (encode u) input output w t x;
+          taken = read-taken n (encode u) input output w t x;
+          stop = read-stop n (encode u) input output w t x;
+        })
+
+run-told : (n : Counts) (words : List ℕ) (input output : Bytes) →
+    let o : Outcome = runOf n words input output in
+    RunTold (slotCount n) words input output (o .words) (o .output) (returned o)
+run-told n words input output = record {
+  unsound = λ f.
+      let e = by-test (wordsSound n words) (λ t. absurd (f (described n .sound words .0 t))) (run-unsound n words input output) in
+      rw e (refl, refl, refl, refl, refl);
+  sound = λ k g e t x. rw e (run-leaves n k g input output t x);
+}
+
+lists-told : (n : Counts) (es : List Event) (k : Reference) → ReferenceGood (slotCount n) k → EventsTold n (slotCount n) k es
+lists-told n [] k g = tt
+lists-told n (run input output ∷ es) k g = λ t x. (run-leaves n k g input output t x, lists-told n es _ (after-good n k g input output t x))
+
+-- ---- reset
+reset-told : (n : Counts) (words : List ℕ) → ResetTold (slotCount n) words (resetOf n words) (resetNumber n words)
+unfolding resetOf resetNumber wordsSound
+reset-told n words =
+    let e = alike-words (start-alike n) in
+    let size : length (referenceWords (referenceStart (slotCount n))) ≡ stateWords n =
+    sym (ap length e) ∙ eqb-true _ _ (and-left _ _ (words-sound n (reset n) (reset-sound n))) in
+    record {
+      reset = λ h. rw (eq-eqb _ _ (h ∙ size)) (e, refl);
+      other = λ h. rw (ne-eqb _ _ (λ z. h (z ∙ sym size))) (refl, refl);
+    }
+
+told-any : (n : Counts) → Told n (slotCount n)
+told-any n = record {
+  reset = reset-told n;
+  run = run-told n;
+  start = alike-good (start-alike n);
+  kept = λ k c g. next-good n k g c;
+  lists = λ k g es. lists-told n es k g;
+}
+
+-- "64 slots each"
+both-sides : slotCount counts ≡ slots
+both-sides = fun-ext (λ side. by-test (eqb side 0) (λ e. rw e) (λ e. rw e))
+
+pub told : Told counts slots
+told = subst (Told counts) both-sides (told-any counts)

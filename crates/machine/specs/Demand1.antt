@@ -1,0 +1,27 @@
+-- Demand 1: what a malformed state or command leaves as it was. Assumes nothing.
+use Prim.Native.Nat.{ℕ, _*_}
+use mathlib.Core.Path.{_≡_}
+use mathlib.Core.List.{List}
+use lib.ListN.{getD, drop}
+use Rattle.machine.specs.State.{Counts, slotCount, State, stateOf}
+use Rattle.machine.specs.Step.{step}
+use Rattle.machine.specs.Stream.{Bytes, Outcome, runOf}
+use Rattle.machine.specs.Ledger.{line, firstNo, questions}
+use Rattle.machine.specs.Places.{Reference, referenceWords}
+use Rattle.machine.specs.Demand3.{unitBytes}
+use Rattle.machine.specs.Good.{ReferenceGood, GoodWords}
+use Rattle.machine.specs.declared.Command.{Command}
+
+pub record Demand1 : Type 0 where
+  -- number 1: words that are not sound stay as they are, and so does every byte of the output
+  pub unsound : (n : Counts) (words : List ℕ) (input output : Bytes) → (GoodWords (slotCount n) words → ⊥)
+      → runOf n words input output ≡ record { words = words; output = output; answered = 0; taken = 0; stop = 1 }
+  -- 5 to 13: a command that is answered by a refusal leaves registers, entries and marks, in whatever state
+  pub refused : (u : State) (c : Command) → getD (unitBytes u c) 0 0 ≡ 5 → step u c .state ≡ u
+  -- and 5 to 12 it gets from the ledger's registers, in every sound state
+  pub numbered : (n : Counts) (k : Reference) → ReferenceGood (slotCount n) k → (c : Command) → (firstNo (questions (k .ledger) c) ≡ 0 → ⊥)
+      → unitBytes (stateOf n (referenceWords k)) c ≡ line 5 (firstNo (questions (k .ledger) c)) 0 0 0 0
+  -- no byte past the answers is written, whatever is passed
+  pub past : (n : Counts) (words : List ℕ) (input output : Bytes) →
+      let o : Outcome = runOf n words input output in
+      drop (o .answered * 24) (o .output) ≡ drop (o .answered * 24) output
