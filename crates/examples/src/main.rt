@@ -1,5 +1,8 @@
-// Two worked examples of the paper, each on an empty side of 64 slots: which entry an insertion removes, and which it displaces.
+// Two worked examples of the paper: which entry an insertion removes, and which it displaces. First each on an empty side of 64 slots
+// by itself; then, in `commands`, through the whole unit.
 // The numbers printed stand in keys and entries or are what the library answers.
+mod commands;
+
 ghost use mathlib.Core.Path.{_≡_};
 ghost use mathlib.Core.Bool.{false};
 ghost use Prim.Native.Nat.{_+_, _-_, _*_, _<_, _≤_, _%_};
@@ -58,6 +61,14 @@ fn print_page(x: Slot) {
     io::print_decimal(1, x.owner % 0x2000);
 }
 
+// The pages of an example: its first and its last.
+fn print_heading(first: Slot, between: &[u8], last: Slot) {
+    print_page(first);
+    io::write_all(1, between);
+    print_page(last);
+    io::write_all(1, b":\n");
+}
+
 // What a lookup finds: an entry's page, or nothing.
 fn print_lookup(slots: &[u64], context: u64, address: u64) {
     io::write_all(1, b"  lookup of 0x");
@@ -96,10 +107,7 @@ fn overlap(first: u64, second: u64) {
     let large = entry(key(second, 0x40_0000), 1);
     tlb_update::insert(slots, small);
     tlb_update::insert(slots, large);
-    print_page(small);
-    io::write_all(1, b", then ");
-    print_page(large);
-    io::write_all(1, b":\n");
+    print_heading(small, b", then ", large);
     print_lookup(slots, first, 0x40_2000);
     print_side(slots);
 }
@@ -150,10 +158,11 @@ fn insertions(slots: &mut [u64])
 fn displacement() {
     let mut side = [0u64; 256];
     let slots: &mut [u64] = &mut side;
-    print_page(entry(numbered(1), 0));
-    io::write_all(1, b", and so on to ");
-    print_page(entry(numbered(66), 0));
-    io::write_all(1, b":\n");
+    print_heading(
+        entry(numbered(1), 0),
+        b", and so on to ",
+        entry(numbered(66), 0),
+    );
     insertions(slots);
     print_side(slots);
 }
@@ -162,4 +171,8 @@ fn main() {
     overlap(5, 5);
     overlap(5, 6);
     displacement();
+    io::write_all(1, b"Through commands:\n");
+    commands::overlap(5, 5);
+    commands::overlap(5, 6);
+    commands::displacement();
 }

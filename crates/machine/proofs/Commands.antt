@@ -46,7 +46,7 @@ use Rattle.machine.specs.declared.Verdict.the-variants.{Passed}
 use Rattle.machine.proofs.State.{strand-sound, kind-side, passed-asked}
 use Rattle.machine.proofs.Questions.{context-picked, write-bytes, write-alike, read-bytes, pointers-bytes}
 use Rattle.machine.proofs.Looks.{StepAlike, askedOf, Early, looks, ends, prepare-alike, key-alike, key-small, miss-alike, hit-alike, miss-not-hit, access-alike, fit-none, used-alike}
-use Rattle.machine.proofs.Unseen.{SameSlots, found-slots}
+use Rattle.machine.proofs.Used.{SameSlots, found-slots}
 use Rattle.machine.proofs.Bytes.{line-answer, name-back, line-kind}
 use Rattle.machine.proofs.Alike.{SideAlike, Alike, placeIn, PlacesAlike, ReferenceAlike}
 use Rattle.machine.proofs.Places.{displaced-way, emptied-side, marked-side, unmarked-side, places-each, places-same}

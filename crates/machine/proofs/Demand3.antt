@@ -37,7 +37,7 @@ use Rattle.machine.proofs.State.{sound-file, sound-encode, words-sound,
 use Rattle.machine.proofs.Runs.{commandsOf, run-answered, run-taken, run-stop, run-words, run-front, run-past}
 use Rattle.machine.proofs.Readable.{reads-taken, reads-stop}
 use Rattle.machine.proofs.Alike.{SideAlike, Alike, placeIn, PlacesAlike, ReferenceAlike}
-use Rattle.machine.proofs.Unseen.{new-used}
+use Rattle.machine.proofs.Used.{new-used}
 use Rattle.machine.proofs.Places.{inserted-side, places-with, side-words}
 use Rattle.machine.proofs.Sides.{alike-empty, alike-lacks}
 use Rattle.machine.proofs.Questions.{verdictNumber, same-number, number-passed, number-refused, slotLeft, refused-alike, passed-alike, refused-bytes, reset-alike, tag-address, address-good, word-good, word-insertable, insertion-entry}

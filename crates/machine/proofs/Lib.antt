@@ -3,6 +3,7 @@ pub mod Words
 pub mod Slots
 pub mod Insertion
 pub mod Sound
+pub mod Used
 pub mod State
 pub mod Bytes
 pub mod Runs

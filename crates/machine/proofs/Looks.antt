@@ -32,7 +32,7 @@ use Rattle.machine.specs.declared.Translation.{Translation}
 use Rattle.machine.specs.declared.Answer.the-variants as answer
 use Rattle.machine.specs.declared.Trap.{Trap}
 use Rattle.machine.specs.declared.Trap.the-variants as trap
-use Rattle.machine.proofs.Unseen.{SameSlots}
+use Rattle.machine.proofs.Used.{SameSlots}
 use Rattle.machine.proofs.Alike.{Alike}
 use Rattle.machine.proofs.Questions.{address-good, code-bytes, context-picked, alike-registers}
 use Rattle.machine.proofs.Bytes.{line-answer}

@@ -27,7 +27,7 @@ use Rattle.machine.specs.declared.Wanted.the-variants as wanted
 use Rattle.machine.specs.declared.Choice.{Choice}
 use Rattle.machine.specs.declared.Choice.the-variants.{Empty, Unused, Cleared, Full}
 use Rattle.machine.specs.declared.Placed.the-variants.{Displaced}
-use Rattle.machine.proofs.Unseen.{SameSlots}
+use Rattle.machine.proofs.Used.{SameSlots}
 use Rattle.machine.proofs.Alike.{placeIn, PlacesAlike}
 use Rattle.machine.proofs.Insertion.{isChosen, isRefused, slot-had, removed-none, Displacement, placed-says}
 use Rattle.machine.proofs.Sides.{SameTest, overlap-test}

@@ -159,8 +159,8 @@ reset-told n words =
       other = λ h. rw (ne-eqb _ _ (λ z. h (z ∙ sym size))) (refl, refl);
     }
 
-told-any : (n : Counts) → Told n (slotCount n)
-told-any n = record {
+pub told : (n : Counts) → Told n (slotCount n)
+told n = record {
   reset = reset-told n;
   run = run-told n;
   start = alike-good (start-alike n);
@@ -172,5 +172,5 @@ told-any n = record {
 both-sides : slotCount counts ≡ slots
 both-sides = fun-ext (λ side. by-test (eqb side 0) (λ e. rw e) (λ e. rw e))
 
-pub told : Told counts slots
-told = subst (Told counts) both-sides (told-any counts)
+pub sold : Told counts slots
+sold = subst (Told counts) both-sides (told counts)

@@ -45,7 +45,7 @@ use Rattle.machine.specs.declared.Verdict.the-variants.{Passed, Refused}
 use Rattle.machine.proofs.Words.{insertable-sound}
 use Rattle.machine.proofs.Slots.{words-back, slots-back, words-length}
 use Rattle.machine.proofs.Insertion.{length-removed, length-inserted}
-use Rattle.machine.proofs.Unseen.{SameSlots, found-slots}
+use Rattle.machine.proofs.Used.{SameSlots, found-slots}
 use Rattle.machine.proofs.Sound.{entry-sound, empty-sound, sound-removed, sound-set-used, sound-inserted}
 
 ruleset conj = (and-left, and-right, eqb-true, ltb-true)

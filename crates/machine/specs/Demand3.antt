@@ -40,21 +40,21 @@ ledgerBytes n u k [] = []
 ledgerBytes n u k (c ∷ cs) = fed n u k c .bytes ++ ledgerBytes n (step u c .state) (fedNext n u k c) cs
 
 -- ---- one command
--- "Live means in the ledger's list for that side just before the command."
+-- live: in the ledger's list of the side just before the command
 abbrev pub Live : Entry → List Entry → Type 0
 Live e m = (i : ℕ) × (i < length m) × (getD m i e ≡ e)
 
--- "An insertion refused by none of document 01's numbers 1 to 12": s are the places, m was live, e is new, b the unit's answer
+-- an insertion that 1 to 12 do not refuse: s are the places, m was live, e is new, b the unit's answer
 pub record InsertionSays (n : ℕ) (s : List Place) (m : List Entry) (e : Entry) (b : Bytes) : Type 0 where
-  -- "names a displaced entry exactly when 64 were live on its side, none overlapped the new one and one at least was unlocked"
+  -- it names a displaced entry exactly when the side was full, none overlapped and one at least was unlocked
   pub displaced : (getD b 0 0 ≡ 4) ↔ ((length m ≡ n) × (howMany (overlap e) m ≡ 0) × (1 ≤ howMany unlocked m))
-  -- "the one named was live and unlocked, and the one that document 01's slots and marks pick"
+  -- the one named was live and unlocked, and is the one that the places pick
   pub named : getD b 0 0 ≡ 4 →
       (x : Entry) × (displacedFrom s ≡ some x) × (isNamed (nameIn b) x ≡ true) × Live x m × (unlocked x ≡ true)
-  -- "It is refused for want of a slot exactly when 64 were live, all locked, and none overlapped."
+  -- 13 is answered exactly when the side was full, all locked, and none overlapped
   pub refused : (b ≡ line 5 13 0 0 0 0) ↔ ((length m ≡ n) × (howMany unlocked m ≡ 0) × (howMany (overlap e) m ≡ 0))
 
--- "Every access that looks up gets the physical address or fault of the one live insertion .. and a miss exactly when there is none."
+-- an access that looks up gets what the one live entry says, and a miss exactly when there is none
 pub record AccessSays (l : Ledger) (a : Asked) (b : Bytes) : Type 0 where
   pub one : howMany (foundBy l a) (l .entries (askedSide a)) ≤ 1
   pub hit : (e : Entry) → Live e (l .entries (askedSide a)) → foundBy l a e ≡ true → b ≡ hits l a e .bytes
@@ -101,7 +101,7 @@ pub record RunSays (n : Counts) (words : List ℕ) (k : Reference) (input output
 pub data Event : Type 0 where
   run : Bytes → Bytes → Event
 
--- "the first from reset, each later one from the state that the last rereferenceTold"
+-- each run on the words that the last one left
 abbrev pub EventsSay : Counts → List ℕ → Reference → List Event → Type 0
 EventsSay n words k [] = words ≡ referenceWords k
 EventsSay n words k (run input output ∷ es) =

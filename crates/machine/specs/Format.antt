@@ -45,8 +45,7 @@ fits (command.Read strand register) = true
 fits (command.Pointers strand side) = true
 
 -- ---- what a run takes
--- "A run takes and answers its commands up to the end of its bytes or to the first that meets 2 to 4": of bytes, with room for answers, the commands, the bytes
--- left, and the stop
+-- of bytes, with room for answers: the commands that a run takes, the bytes that it leaves, and why it ends ("The ledger", second paragraph)
 pub data Reads : List ℕ → ℕ → List Command → List ℕ → ℕ → Type 0 where
   -- "0 at the end of input"
   end : {room : ℕ} → Reads [] room [] [] 0

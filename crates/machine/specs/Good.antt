@@ -31,7 +31,8 @@ entriesIn [] = []
 entriesIn (empty ∷ r) = entriesIn r
 entriesIn (filled e mark ∷ r) = e ∷ entriesIn r
 
--- ---- the whole: a register holds what may be written to it, 20 to 25 anything, and a cell that is no register zero; the ledger lists, in whatever order, what stands in the places
+-- ---- the whole: a register holds what may be written to it, 20 to 25 anything, and a cell that is no register zero; the ledger lists, in whatever order, what
+-- stands in the places
 pub record ReferenceGood (n : ℕ → ℕ) (k : Reference) : Type 0 where
   pub registers : (strand number : ℕ) → strand < 4 → number < 32 →
       let value : ℕ = k .ledger .registers strand number in

@@ -18,7 +18,7 @@ pub data Place : Type 0 where
   empty : Place
   filled : Entry → Bool → Place
 
--- "an instruction buffer (side 0) and a data buffer (side 1), 64 slots each"
+-- "64 slots each": of either side
 abbrev pub slots : ℕ → ℕ
 slots side = 64
 

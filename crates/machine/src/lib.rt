@@ -1,7 +1,7 @@
 // What a buyer must believe: the declared types, the definitions in specs/ and the theorems on them.
 ghost use mathlib.Core.Path.{_≡_};
 ghost use lib.ListN.{length};
-ghost use Rattle.machine.specs.State.{Counts, counts};
+ghost use Rattle.machine.specs.State.{Counts, counts, slotCount};
 ghost use Rattle.machine.specs.Stream.{answerBytes};
 ghost use Rattle.machine.specs.declared.Answer.{Answer};
 ghost use Rattle.machine.specs.Demand1.{Demand1};
@@ -263,7 +263,8 @@ pub struct Run {
 // The bytes of an answer. The other clauses hold only while their theorems are proved, so the gate asks for them.
 pub fn answer_width() -> usize
     ensures width { λ r. ⌜ (r ≡ 24) × ((a : Answer) → length (answerBytes a) ≡ r) ⌝ }
-    ensures told { λ r. ⌜ Told counts slots ⌝ }
+    ensures told { λ r. ⌜ ((c : Counts) → Told c (slotCount c)) ⌝ }
+    ensures sold { λ r. ⌜ Told counts slots ⌝ }
     ensures readable { λ r. ⌜ Readable ⌝ }
     ensures demand1 { λ r. ⌜ Demand1 ⌝ }
     ensures demand2 { λ r. ⌜ Demand2 ⌝ }

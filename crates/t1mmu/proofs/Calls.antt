@@ -14,7 +14,7 @@ use Rattle.machine.specs.declared.Run.{Run}
 use Rattle.machine.specs.declared.Tte.{Tte}
 use Rattle.machine.proofs.Demand2.{demand2}
 use Rattle.machine.proofs.Demand3.{demand3}
-use Rattle.machine.proofs.Reference.{told}
+use Rattle.machine.proofs.Reference.{sold}
 use Rattle.t1mmu.specs.Equal.{Equal}
 
 -- a run that comes to the unit's outcome
@@ -29,13 +29,13 @@ run-call words input output left written r e =
       stop = ap (λ (o : Outcome). o .stop) e;
     } in
     let as-told : RunTold slots words input output left written r =
-    subst (λ (o : Outcome). RunTold slots words input output (o .words) (o .output) (returned o)) (sym e) (told .run words input output) in
+    subst (λ (o : Outcome). RunTold slots words input output (o .words) (o .output) (returned o)) (sym e) (sold .run words input output) in
     (as-told, (equal, demand3 counts))
 
 -- a reset that comes to the unit's
 pub reset-call : (words left : List ℕ) (number : ℕ) → left ≡ resetOf counts words → number ≡ resetNumber counts words
     → (left ≡ resetOf counts words) × ((number ≡ resetNumber counts words) × ResetTold slots words left number)
-reset-call words left number e f = (e, (f, subst (λ (l : List ℕ). ResetTold slots words l number) (sym e) (subst (ResetTold slots words _) (sym f) (told .reset words))))
+reset-call words left number e f = (e, (f, subst (λ (l : List ℕ). ResetTold slots words l number) (sym e) (subst (ResetTold slots words _) (sym f) (sold .reset words))))
 
 -- the fields of a word, and the word of fields
 pub unpack-call : (word : ℕ) (r : Tte) → r ≡ unpacked word → packed r ≡ word → (r ≡ unpacked word) × ((packed r ≡ word) × Fields (IsBits word) r)

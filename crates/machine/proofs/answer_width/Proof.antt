@@ -8,7 +8,7 @@ use Rattle.machine.proofs.Demand2.{demand2}
 use Rattle.machine.proofs.Demand3.{demand3}
 use Rattle.machine.proofs.Good.{described}
 use Rattle.machine.proofs.Readable.{readable}
-use Rattle.machine.proofs.Reference.{told}
+use Rattle.machine.proofs.Reference.{told, sold}
 use Rattle.machine.proofs.Examples.{starred}
 use Rattle.machine.proofs.Format.{decodes}
 use Rattle.machine.proofs.Frame.{frame}
@@ -27,7 +27,7 @@ framed = frame
 
 returns : tie.Need-returns
 returns c =
-    ((refl, answer-length), (told, (readable, (demand1, (demand2, (demand3, (described, (kept, (framed, (unseen, (decodes, (starred, printed-run))))))))))))
+    ((refl, answer-length), (told, (sold, (readable, (demand1, (demand2, (demand3, (described, (kept, (framed, (unseen, (decodes, (starred, printed-run)))))))))))))
 
 pub answer-width-spec : {M : Type 1} → statement M
 answer-width-spec = tie.close (tie.spec returns)

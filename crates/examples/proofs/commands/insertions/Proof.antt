@@ -1,0 +1,49 @@
+-- `examples::commands::insertions` meets its contract: the state keeps its length.
+use Prim.Native.Nat.{_≤_, _-_}
+use mathlib.Core.Path.{_≡_}
+use native.Mathlib.Omega.{arith}
+use lib.ListN.{length}
+use borrow.Author.Needs.{needs}
+use Rattle.examples.proofs.commands.insertions.Statement.{statement}
+use Rattle.examples.proofs.commands.insertions.Tie as tie
+
+abbrev Inv-loop : tie.InvT-loop
+Inv-loop state₀ q₀ state q = (length state ≡ length state₀) × (1 ≤ q) × (q ≤ 67)
+
+abbrev μ-loop : tie.MeasureT-loop
+μ-loop state₀ q₀ state q = 67 - q
+
+loop-holds : tie.Need-loop-holds Inv-loop μ-loop
+loop-holds c = search needs
+
+insertion-requires : tie.Need-insertion-requires Inv-loop μ-loop
+insertion-requires c κs = search needs
+
+add-q : tie.Need-add-q Inv-loop μ-loop
+add-q c = omega arith
+
+loop-less : tie.Need-loop-less Inv-loop μ-loop
+loop-less c = omega arith
+
+loop-again : tie.Need-loop-again Inv-loop μ-loop
+loop-again c = search needs
+
+same-length : tie.Need-same-length Inv-loop μ-loop
+same-length c = search needs
+
+returns : tie.Need-returns Inv-loop μ-loop
+returns c = search needs
+
+pub insertions-spec : {M : Type 1} → statement M
+insertions-spec =
+    tie.close
+    (tie.spec
+    Inv-loop
+    μ-loop
+    loop-holds
+    insertion-requires
+    add-q
+    loop-less
+    loop-again
+    same-length
+    returns)

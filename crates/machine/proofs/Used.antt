@@ -1,0 +1,40 @@
+-- What an access does to the slots, and that a new entry has its used bit. Assumes nothing.
+use Prim.Native.Nat.{ℕ}
+use mathlib.Core.Path.{_≡_, refl}
+use mathlib.Core.Bool.{Bool, true, false}
+use mathlib.Core.List.{List}
+use lib.ListN.{getD}
+use Rattle.laws.specs.declared.Found.the-variants.{At}
+use Rattle.machine.specs.Slots.{noSlot, isUsed, setUsed}
+use Rattle.machine.specs.Insertion.{entryOf}
+use Rattle.machine.specs.State.{State, sideOf, withSide}
+use Rattle.machine.specs.Questions.{kindSide}
+use Rattle.machine.specs.Access.{judge, settleJudged, settleFound}
+use Rattle.machine.specs.declared.Slot.{Slot}
+use Rattle.machine.specs.declared.Key.{Key}
+use Rattle.machine.specs.declared.Access.{Access}
+use Rattle.machine.specs.declared.Judged.{Judged}
+use Rattle.machine.specs.declared.Judged.the-variants as judged
+
+-- two states with the same slots
+abbrev pub SameSlots : State → State → Type 0
+SameSlots u v = (u .itlb ≡ v .itlb) × (u .dtlb ≡ v .dtlb)
+
+-- no judgement touches the slots
+judged-slots : (u : State) (a : Access) (j : Judged) → SameSlots (settleJudged u a j .state) u
+judged-slots u a (judged.Faulted t) = (refl, refl)
+judged-slots u a (judged.Translated t) = (refl, refl)
+
+-- the found entry's used bit is set, whether it ends in a fault or not
+pub found-slots : (u : State) (a : Access) (i : ℕ) →
+    let side : ℕ = kindSide (a .kind) in
+    SameSlots (settleFound u a (At i) .state) (withSide u side (setUsed i (sideOf u side)))
+found-slots u a i =
+    let s : List Slot = sideOf u (kindSide (a .kind)) in
+    judged-slots (withSide u (kindSide (a .kind)) (setUsed i s)) a (judge (u .registers) a (getD s i noSlot .word))
+
+-- a new entry's is
+pub new-used : (key : Key) (locked : Bool) (word : ℕ) → isUsed (entryOf key locked word) ≡ true
+unfolding entryOf
+new-used key true word = refl
+new-used key false word = refl
