@@ -19,7 +19,7 @@ use Rattle.laws.proofs.Counts.{count-at, none-count}
 use Rattle.laws.proofs.Finds.{count-index}
 use Rattle.machine.specs.Pages.{inRange}
 use Rattle.machine.specs.Words.{wordInsertable}
-use Rattle.machine.specs.Slots.{noSlot, isLive, partitionOf, keyOwner, answersTo, withUsed, setUsed}
+use Rattle.machine.specs.Slots.{noSlot, isLive, partitionOf, keyOwner, answersTo, withUsed, withoutUsed, setUsed}
 use Rattle.machine.specs.Insertion.{overlaps, removed, removes, isEmpty, candidate, entryOf, inserted, placed}
 use Rattle.machine.specs.Sound.{slotSound, sideSound}
 use Rattle.machine.specs.Registers.{partition, tagAccess, tagAddress}
@@ -132,7 +132,7 @@ module _ (s : List Slot) (k : sideSound s ≡ true) (new : Slot) (a : slotSound 
     inserted-frame =
         ⊎-elim
         (λ c. placed-frame c (placed candidate new s) (placed-says candidate new s)
-        (count-inserted same (λ x t. rw (not-true (isLive x) t)) (λ x. let lock : x .flags % 2 % 2 ≡ x .flags % 2 = omega arith in rw lock) candidate new s))
+        (count-inserted same (λ x t. rw (not-true (isLive x) t)) (λ x. let lock : withoutUsed x .flags % 2 ≡ x .flags % 2 = omega arith in rw lock) candidate new s))
         (λ t. inr (inl t))
         (spared s e h k (overlap-test new a l))
 

@@ -94,13 +94,12 @@ unlocked-cleared x = by-test (isLive x) (λ l. rw l) (λ l. rw l)
 
 unmarked-in : (x : Slot) → placeIn (withoutUsed x) ≡ unmarked (placeIn x)
 unmarked-in x =
-    let m : x .flags % 2 % 2 ≡ x .flags % 2 = omega arith in
-    by-test (isLive x)
-    (λ l. rw (l, m, ne-eqb (x .flags % 2 / 2 % 2) 1 (λ e. omega arith)))
-    (λ l. rw l)
+    let lock : withoutUsed x .flags % 2 ≡ x .flags % 2 = omega arith in
+    let mark : withoutUsed x .flags / 2 % 2 ≡ 0 = omega arith in
+    by-test (isLive x) (λ l. rw (l, lock, mark)) (λ l. rw l)
 
-used-bit : (flags : ℕ) → (flags % 2 + 2) / 2 % 2 ≡ 1
-used-bit flags = omega arith
+used-mark : (x : Slot) → withUsed x .flags / 2 % 2 ≡ 1
+used-mark x = omega arith
 
 module _ {q : Slot → Bool} {p : Entry → Bool} (t : SameTest q p) where
   emptied-in : (x : Slot) → slotSound x ≡ true → placeIn (emptiedBy q x) ≡ emptied p (placeIn x)
@@ -120,8 +119,8 @@ module _ {q : Slot → Bool} {p : Entry → Bool} (t : SameTest q p) where
   marked-here x h e =
       let l : isLive x ≡ true = t .live x e in
       let f : p (entryIn x) ≡ true = sym (t .agree x h l) ∙ e in
-      let m : (x .flags % 2 + 2) % 2 ≡ x .flags % 2 = omega arith in
-      rw (l, f, m, eq-eqb _ 1 (used-bit (x .flags)))
+      let lock : withUsed x .flags % 2 ≡ x .flags % 2 = omega arith in
+      rw (l, f, lock, used-mark x)
 
   marked-not : (x : Slot) → slotSound x ≡ true → q x ≡ false → placeIn x ≡ marked p (placeIn x)
   marked-not x h e = by-test (isLive x)

@@ -45,9 +45,10 @@ takes (unknown {b = b} {r = r} k) p =
     rw (sub-self (length (b ∷ r))) (at-stop (inside p (b ∷ r) (omega arith)) (decodes .unknown (p ++ b ∷ r) (length p) (rw getD-append-seam k)))
 takes (short {q = q} c r e i j) p = rw (sub-self (length q)) (at-stop (inside p q i) (decodes .short p q r c e i j))
 takes (full {s = s} c r f e l) p = rw (sub-self (length s), e) (no-room (inside-command p r c f) (decodes .known p r c f) l)
-takes (next {r = r} {rest = rest} {c = c} f e l x) p =
+takes {room} (next {r = r} {rest = rest} {c = c} f e l x) p =
+    let enough : 24 ≤ room = omega arith in
     let w : length (encoded c ++ r) - length rest ≡ length (encoded c) + (length r - length rest) = rw length-append (omega (arith, rest-length x)) in
-    rw (e, w) (one (inside-command p r c f) (decodes .known p r c f) l (rw (length-append, append-assoc) at (takes x (p ++ encoded c))))
+    rw (e, w) (one (inside-command p r c f) (decodes .known p r c f) enough (rw (length-append, append-assoc) at (takes x (p ++ encoded c))))
 
 pub reads-taken : (s : List ℕ) (room : ℕ) {cs : List Command} {rest : List ℕ} {stop : ℕ} → Reads s room cs rest stop
     → takenOf s room ≡ record { commands = cs; width = length s - length rest; stop = stop }

@@ -20,7 +20,7 @@ use Rattle.laws.proofs.Walks.{found-at, found-none}
 use Rattle.laws.proofs.Finds.{count-index, find-zero, find-only, removed-once, count-where, zero-none, without-none, how-many, none-passes}
 use Rattle.machine.specs.Pages.{listed, pageShift, pageSize, pageStart}
 use Rattle.machine.specs.Words.{wordSound}
-use Rattle.machine.specs.Slots.{noSlot, isLive, sizeCode, partitionOf, isReal, contextOf, holds, answersTo, withUsed, setUsed}
+use Rattle.machine.specs.Slots.{noSlot, isLive, sizeCode, partitionOf, isReal, contextOf, holds, answersTo, withUsed, withoutUsed, setUsed}
 use Rattle.machine.specs.Insertion.{overlaps, removed, removes, isEmpty, candidate, inserted, placed, hasSlot}
 use Rattle.machine.specs.Sound.{ownerSound, liveSound, slotSound, sideSound}
 use Rattle.machine.specs.Questions.{keyOf}
@@ -390,7 +390,7 @@ module _ {n : ℕ} {s : List Slot} {m : List Entry} (h : SideAlike n s m) where
         ≡ count r (without (overlap (entryIn new)) m) + newShare (hit r) new (placed candidate new s)
     counts r =
         rw (count-spared (overlap-test new k l) r) at
-        (count-inserted (hit r) (λ x e. rw (not-true (isLive x) e)) (λ x. blind r x (x .flags % 2) (omega arith)) candidate new s)
+        (count-inserted (hit r) (λ x e. rw (not-true (isLive x) e)) (λ x. blind r x (withoutUsed x .flags) (omega arith)) candidate new s)
 
     -- with a slot empty or made so
     pub alike-done : placed candidate new s ≡ Done

@@ -98,7 +98,7 @@ flagged-sound x n h l b =
 unused-sound : (x : Slot) → slotSound x ≡ true → slotSound (withoutUsed x) ≡ true
 unused-sound x h =
     by-test (isLive x)
-    (λ l. flagged-sound x (x .flags % 2) h l (omega arith))
+    (λ l. flagged-sound x (withoutUsed x .flags) h l (omega arith))
     (λ l. rw (dead-zero x h l) no-slot-sound)
 
 -- emptied by any test
