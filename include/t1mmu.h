@@ -9,7 +9,8 @@
  *     struct t1mmu_report r = t1mmu_run(state, T1MMU_STATE_WORDS, commands, length, answers, room);
  *
  * Every call is proved equal to a definition in crates/machine/specs, in its result, in every word of the state and in every byte of
- * the answers, for every value and every length that it may be given. The proof speaks of the ranges that a pointer and its length name:
+ * the answers, for every value and every length that it may be given; and again to second texts of it, in no word of the first: a plain
+ * ledger of entries with numbered places tells all that t1mmu_run leaves and returns. The proof speaks of the ranges that a pointer and its length name:
  *   - each range is the caller's to read, and state and output to write, for the whole of the call;
  *   - state, input and output do not overlap; state is aligned as uint64_t is;
  *   - with length 0 the pointer is not used, and may be null.

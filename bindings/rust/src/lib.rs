@@ -1,6 +1,6 @@
 //! The translation unit of an UltraSPARC T1 core, over the proved library `libt1mmu.a`.
 //!
-//! Every call is proved equal to a definition in `crates/machine/specs`; this crate adds types and lends slices, nothing else.
+//! Every call is proved equal to a definition in `crates/machine/specs`, and again to a second text of it; this crate adds types and lends slices, nothing else.
 //! The proof asks that the ranges lent are disjoint and may be read and written: `&[u8]` and `&mut [u8]` say just that.
 
 use std::fmt;

@@ -29,7 +29,7 @@ use Rattle.machine.specs.State.{Counts, slotCount, State, sideOf, withSi
 use Rattle.machine.specs.Step.{placedAnswer, demap, act}
 use Rattle.machine.specs.Stream.{Bytes, answerBytes}
 use Rattle.machine.specs.Ledger.{Entry, Ledger, Name, nameIn, isNamed, line, lacksSlot, overlap, unlocked, Written, inserts, demaps, withEntries, isAt, inContext, contextPicked, translationOn, Asked, askedSide, earlySteps, looksUp, foundBy, misses, lookedUp, accesses, pointers, does}
-use Rattle.machine.specs.Places.{Reference, emptied, marked, each, accessed, moved}
+use Rattle.machine.specs.Places.{Reference, emptiedWhere, usedWhere, each, accessed, moved}
 use Rattle.machine.specs.Demand3.{InsertionSays, AccessSays}
 use Rattle.machine.specs.Frame.{entryIn}
 use Rattle.machine.specs.declared.Slot.{Slot}
@@ -49,7 +49,7 @@ use Rattle.machine.proofs.Looks.{StepAlike, askedOf, Early, looks, ends
 use Rattle.machine.proofs.Used.{SameSlots, found-slots}
 use Rattle.machine.proofs.Bytes.{line-answer, name-back, line-kind}
 use Rattle.machine.proofs.Alike.{SideAlike, Alike, placeIn, PlacesAlike, ReferenceAlike}
-use Rattle.machine.proofs.Places.{displaced-way, emptied-side, marked-side, unmarked-side, places-each, places-same}
+use Rattle.machine.proofs.Places.{displaced-way, emptied-side, used-side, unused-side, places-each, places-same}
 use Rattle.machine.proofs.Sides.{SameTest, everything-test, page-test, context-test, partition-test, key-test, aligned, alike-nothing, alike-found, alike-one, alike-used, alike-count, alike-removed, alike-emptied, nameOf, named-self, DisplacedSays, alike-lacks, alike-done, alike-displaced, inserts-refused, inserts-done, inserts-displaced}
 
 -- ---- a side of two that are alike
@@ -299,7 +299,9 @@ module _ {n : Counts} {u : State} {l : Ledger} (h : Alike n u l) where
   pub access-told : (a : Access) → a .strand < 4 → a .selector < 3 → looksUp l (askedOf a) ≡ true
       → AccessSays l (askedOf a) (answerBytes (accessTo u a .answer))
   unfolding accesses
-  access-told a s c e = access-says l (askedOf a) _ (looked-one a s c) (access-does a s c .bytes ∙ ap (λ (w : Written). w .bytes) (fit-none (earlySteps l (askedOf a)) _ (looks-past l (askedOf a) e)))
+  access-told a s c e =
+      access-says l (askedOf a) _ (looked-one a s c)
+      (access-does a s c .bytes ∙ ap (λ (w : Written). w .bytes) (fit-none (earlySteps l (askedOf a)) _ (looks-past l (askedOf a) e)))
 
   -- a command that passed and is no insertion
   pub does-alike : (c : Command) → verdict u c ≡ Passed → (d : Name) → NoInsertion c → StepAlike n (act u c) (does (slotCount n) l c d)
@@ -336,22 +338,23 @@ module _ {n : Counts} {u : State} {k : Reference} (h : ReferenceAlike n u k) whe
   l = k .ledger
 
   demap-places : (side : ℕ) (which : Removal) (p : Entry → Bool) → side < 2 → SameTest (removes which) p
-      → PlacesAlike (demap u side which .state) (each k side (emptied p))
-  demap-places side which p b t = places-each (h .places) side b _ (emptied p) (emptied-side t (sideOf u side) (alike-side side b (h .ledger) .sound))
+      → PlacesAlike (demap u side which .state) (each k side (emptiedWhere p))
+  demap-places side which p b t = places-each (h .places) side b _ (emptiedWhere p) (emptied-side t (sideOf u side) (alike-side side b (h .ledger) .sound))
 
-  found-places : (a : Access) (s : a .strand < 4) (c : a .selector < 3) (f : Found) → first (answersTo (lookupKey (u .registers) a)) (sideOf u (kindSide (a .kind))) ≡ f
-      → PlacesAlike (settleFound u a f .state) (each k (kindSide (a .kind)) (marked (foundBy l (askedOf a))))
+  found-places : (a : Access) (s : a .strand < 4) (c : a .selector < 3) (f : Found)
+      → first (answersTo (lookupKey (u .registers) a)) (sideOf u (kindSide (a .kind))) ≡ f
+      → PlacesAlike (settleFound u a f .state) (each k (kindSide (a .kind)) (usedWhere (foundBy l (askedOf a))))
   found-places a s c Nothing e =
       let side : ℕ = kindSide (a .kind) in
       let t = key-same (h .ledger) a s c in
       let none-found = none-count _ (sideOf u side) (found-none noSlot _ (sideOf u side) (rw (key-alike (h .ledger) a s c) at e)) in
-      places-same _ (places-each (h .places) side (kind-side (a .kind)) (sideOf u side) (marked (foundBy l (askedOf a)))
-      (unmarked-side t (sideOf u side) (looked (h .ledger) a .sound) none-found)) (same-side u side)
+      places-same _ (places-each (h .places) side (kind-side (a .kind)) (sideOf u side) (usedWhere (foundBy l (askedOf a)))
+      (unused-side t (sideOf u side) (looked (h .ledger) a .sound) none-found)) (same-side u side)
   found-places a s c (At i) e =
       let side : ℕ = kindSide (a .kind) in
       let t = key-same (h .ledger) a s c in
-      places-same _ (places-each (h .places) side (kind-side (a .kind)) (setUsed i (sideOf u side)) (marked (foundBy l (askedOf a)))
-      (marked-side t (sideOf u side) i (looked (h .ledger) a .sound)
+      places-same _ (places-each (h .places) side (kind-side (a .kind)) (setUsed i (sideOf u side)) (usedWhere (foundBy l (askedOf a)))
+      (used-side t (sideOf u side) i (looked (h .ledger) a .sound)
       (omega (arith, alike-count (looked (h .ledger) a) t, looked-one (h .ledger) a s c)) (rw (key-alike (h .ledger) a s c) at e))) (found-slots u a i)
 
   access-places : (a : Access) → a .strand < 4 → a .selector < 3 → PlacesAlike (accessTo u a .state) (accessed k (askedOf a))

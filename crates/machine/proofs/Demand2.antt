@@ -8,14 +8,14 @@ use native.Mathlib.Nat.{mod-lt, div-eq-of-lt, lt-of-lt-of-le}
 use lib.Dec.{eqb, ltb}
 use lib.Pow.{pow-pos, pow-mono, field, shr-shr, mod-pow-add}
 use lib.ListN.{getD}
-use borrow.Author.Tests.{ltb-true, ltb-false}
+use borrow.Author.Tests.{ltb-true, ltb-false, lt-ltb}
 use Rattle.laws.specs.Tests.{first}
 use Rattle.laws.specs.declared.Found.{Found}
 use Rattle.laws.specs.declared.Found.the-variants.{At, Nothing}
 use Rattle.laws.proofs.Bools.{by-test, clash, and-left}
 use Rattle.laws.proofs.Walks.{found-at}
 use Rattle.machine.specs.Pages.{inRange}
-use Rattle.machine.specs.Words.{bits, unpacked, packed, wordSound, physicalAt}
+use Rattle.machine.specs.Words.{bits, unpacked, packed, fields, wordSound, physicalAt}
 use Rattle.machine.specs.Slots.{noSlot, isLive, answersTo}
 use Rattle.machine.specs.Insertion.{candidate, placed}
 use Rattle.machine.specs.Registers.{mode}
@@ -23,7 +23,8 @@ use Rattle.machine.specs.State.{Counts, State, sideOf, sound}
 use Rattle.machine.specs.Questions.{kindSide, insertion, verdict}
 use Rattle.machine.specs.Access.{bypassTo, prepare, faultType, attributesOf, judge, settleJudged, settleFound, settle}
 use Rattle.machine.specs.Step.{placedAnswer, act, stepBy, step}
-use Rattle.machine.specs.Demand2.{IsBits, HasBits, Demand2}
+use Rattle.machine.specs.Demand2.{IsBits, HasBits, Fields, Demand2}
+use Rattle.machine.specs.declared.Tte.{Tte}
 use Rattle.machine.specs.declared.Slot.{Slot}
 use Rattle.machine.specs.declared.Key.{Key}
 use Rattle.machine.specs.declared.Access.{Access}
@@ -111,11 +112,13 @@ no-address : {C : Type 0} {x : Answer} {t : Translation} → isPhysical x ≡ fa
 no-address f e = clash (ap isPhysical e) f
 
 module _ (n : Counts) (u : State) (h : sound n u ≡ true) (a : Access) (t : Translation) where
-  judged-below : (v : State) (j : Judged) → (j ≡ judged.Translated t → t .address .0 < 2 ^ 40) → settleJudged v a j .answer ≡ answer.Physical t → t .address .0 < 2 ^ 40
+  judged-below : (v : State) (j : Judged) → (j ≡ judged.Translated t → t .address .0 < 2 ^ 40)
+      → settleJudged v a j .answer ≡ answer.Physical t → t .address .0 < 2 ^ 40
   judged-below v (judged.Faulted s) k e = no-address refl e
   judged-below v (judged.Translated p) k e = k (let is : p ≡ t = cc in ap judged.Translated is)
 
-  found-below : (key : Key) (f : Found) → first (answersTo key) (sideOf u (kindSide (a .kind))) ≡ f → settleFound u a f .answer ≡ answer.Physical t → t .address .0 < 2 ^ 40
+  found-below : (key : Key) (f : Found) → first (answersTo key) (sideOf u (kindSide (a .kind))) ≡ f
+      → settleFound u a f .answer ≡ answer.Physical t → t .address .0 < 2 ^ 40
   unfolding answersTo
   found-below key Nothing g e = no-address refl e
   found-below key (At i) g e =
@@ -156,6 +159,26 @@ step-below n u c t h = go (verdict u c)
     go Passed e = act-below n u c t h e
     go (Refused r) e = no-address refl e
 
+fields-fit : (t : Tte) → Fields (λ k n field. field < 2 ^ n) t → fields t ≡ true
+unfolding fields
+fields-fit t f =
+    let below : (n x : ℕ) → x < 2 ^ n → ltb x (2 ^ n) ≡ true = λ n x. lt-ltb x (2 ^ n) in
+    rw (
+      below 1 (t .v) (f .v),
+      below 1 (t .nfo) (f .nfo),
+      below 6 (t .soft2) (f .soft2),
+      below 43 (t .address) (f .address),
+      below 1 (t .ie) (f .ie),
+      below 1 (t .e) (f .e),
+      below 1 (t .cp) (f .cp),
+      below 1 (t .cv) (f .cv),
+      below 1 (t .p) (f .p),
+      below 1 (t .ep) (f .ep),
+      below 1 (t .w) (f .w),
+      below 2 (t .soft) (f .soft),
+      below 4 (t .size) (f .size),
+    )
+
 pub demand2 : Demand2
 unfolding packed unpacked
 demand2 = record {
@@ -195,6 +218,7 @@ demand2 = record {
         },
         omega arith,
       );
+  fit = fields-fit;
   back = pack-unpack;
   physical = step-below;
 }

@@ -95,7 +95,8 @@ step-passed c v e s p y = record {
 }
 
 -- what is said of one that is no insertion
-says-passed : {n : Counts} {u : State} {k : Reference} → ReferenceAlike n u k → (c : Command) → NoInsertion c → verdict u c ≡ Passed → Says n k c (answerBytes (act u c .answer))
+says-passed : {n : Counts} {u : State} {k : Reference} → ReferenceAlike n u k → (c : Command) → NoInsertion c → verdict u c ≡ Passed
+    → Says n k c (answerBytes (act u c .answer))
 unfolding act asked allOf
 says-passed h (command.Write strand number value) t v = tt
 says-passed h (command.Insert strand side flags word) t v = absurd t
@@ -111,7 +112,8 @@ says-passed h (command.Read strand number) t v = tt
 says-passed h (command.Pointers strand side) t v = tt
 
 -- one that passed and is no insertion
-step-plain : {n : Counts} {u : State} {k : Reference} → ReferenceAlike n u k → (c : Command) → NoInsertion c → slotLeft u c ≡ true → firstNo (questions (k .ledger) c) ≡ 0 → StepSays n u k c
+step-plain : {n : Counts} {u : State} {k : Reference} → ReferenceAlike n u k → (c : Command) → NoInsertion c → slotLeft u c ≡ true
+    → firstNo (questions (k .ledger) c) ≡ 0 → StepSays n u k c
 unfolding step
 step-plain {u} h c t f e =
     let v = passed (h .ledger) c f e in

@@ -13,7 +13,7 @@ use Rattle.laws.proofs.Bools.{by-test, and-both, and-left, and-right}
 use Rattle.laws.proofs.Belows.{below-all}
 use Rattle.laws.proofs.Alls.{pair-get}
 use Rattle.laws.proofs.Finds.{how-many}
-use Rattle.machine.specs.Pages.{pageShift, pageSize}
+use Rattle.machine.specs.Pages.{inRange, pageShift, pageSize}
 use Rattle.machine.specs.Words.{wordSound}
 use Rattle.machine.specs.Slots.{noSlot, isLive, isUsed}
 use Rattle.machine.specs.Insertion.{overlaps}
@@ -49,17 +49,17 @@ entry-good x h l =
     }
 
 -- a place that holds an entry is a live slot's
-filled-live : (x : Slot) (e : Entry) (mark : Bool) → placeIn x ≡ filled e mark → (isLive x ≡ true) × (entryIn x ≡ e)
-filled-live x e mark f = by-test (isLive x)
-    (λ l. let g : filled (entryIn x) (isUsed x) ≡ filled e mark = rw l at f in (l, cc))
-    (λ l. let g : empty ≡ filled e mark = rw l at f in absurd (let z : _≡_ {A = ℕ} 0 1 = cc in omega arith))
+filled-live : (x : Slot) (e : Entry) (used : Bool) → placeIn x ≡ filled e used → (isLive x ≡ true) × (entryIn x ≡ e)
+filled-live x e used f = by-test (isLive x)
+    (λ l. let g : filled (entryIn x) (isUsed x) ≡ filled e used = rw l at f in (l, cc))
+    (λ l. let g : empty ≡ filled e used = rw l at f in absurd (let z : _≡_ {A = ℕ} 0 1 = cc in omega arith))
 
 side-good : (n : ℕ) (s : List Slot) → length s ≡ n → sideSound s ≡ true → SideGood n (map placeIn s)
 unfolding sideSound
 side-good n s z h = record {
   size = length-map s placeIn ∙ z;
-  entries = λ i e mark f.
-      let (l, g) = at i e mark f in
+  entries = λ i e used f.
+      let (l, g) = at i e used f in
       rw g at (entry-good (getD s i noSlot) (sound-slot s i h) l);
   apart = λ i j e x a b c f g.
       let (l, p) = at i e a f in
@@ -68,9 +68,9 @@ side-good n s z h = record {
       ∙ pair-get overlaps noSlot none-overlaps s i j c (and-right (allOf slotSound s) _ h);
 }
   where
-    at : (i : ℕ) (e : Entry) (mark : Bool) → getD (map placeIn s) i empty ≡ filled e mark
+    at : (i : ℕ) (e : Entry) (used : Bool) → getD (map placeIn s) i empty ≡ filled e used
         → (isLive (getD s i noSlot) ≡ true) × (entryIn (getD s i noSlot) ≡ e)
-    at i e mark f = filled-live (getD s i noSlot) e mark (sym (List·getD-map placeIn s i noSlot) ∙ f)
+    at i e used f = filled-live (getD s i noSlot) e used (sym (List·getD-map placeIn s i noSlot) ∙ f)
 
 -- the book of a state
 abbrev referenceOf : State → Reference
@@ -110,11 +110,11 @@ alike-good {n} {u} {k} h = record {
 -- ---- from places to slots
 abbrev pub slotFor : Place → Slot
 slotFor empty = noSlot
-slotFor (filled e mark) = record {
+slotFor (filled e used) = record {
   owner = e .partition * 2 ^ 14 + tick (e .real) * 2 ^ 13 + e .context;
   page = e .page;
   word = e .word;
-  flags = tick (e .locked) + 2 * tick mark;
+  flags = tick (e .locked) + 2 * tick used;
 }
 
 owner-parts : (p c : ℕ) (r : Bool) → c < 2 ^ 13 →
@@ -135,9 +135,9 @@ flag-parts true false = (refl, refl, refl)
 flag-parts false true = (refl, refl, refl)
 flag-parts false false = (refl, refl, refl)
 
-module _ (e : Entry) (mark : Bool) (g : EntryGood e) where
+module _ (e : Entry) (used : Bool) (g : EntryGood e) where
   abbrev x : Slot
-  x = slotFor (filled e mark)
+  x = slotFor (filled e used)
 
   word-sound : wordSound (e .word) ≡ true
   word-sound = sym (word-good (e .word)) ∙ g .word
@@ -146,14 +146,14 @@ module _ (e : Entry) (mark : Bool) (g : EntryGood e) where
   unfolding wordSound
   slot-live = and-left _ _ word-sound
 
-  slot-back : placeIn x ≡ filled e mark
+  slot-back : placeIn x ≡ filled e used
   slot-back =
       let o = owner-parts (e .partition) (e .context) (e .real) (omega (arith, g .context)) in
-      let f = flag-parts (e .locked) mark in
+      let f = flag-parts (e .locked) used in
       rw (slot-live, o .0, o .1, o .2, f .0, f .1, tick-back (e .real))
 
   slot-entry : entryIn x ≡ e
-  slot-entry = filled-live x e mark slot-back .1
+  slot-entry = filled-live x e used slot-back .1
 
   slot-good : slotSound x ≡ true
   unfolding slotSound liveSound ownerSound pageSound
@@ -161,23 +161,25 @@ module _ (e : Entry) (mark : Bool) (g : EntryGood e) where
       let o = owner-parts (e .partition) (e .context) (e .real) (omega (arith, g .context)) in
       let start : e .page / pageSize (e .word % 2 ^ 4) * pageSize (e .word % 2 ^ 4) ≡ e .page =
       omega (arith, split (e .page) (pageShift (e .word % 2 ^ 4)), rw (page-bytes (e .word) word-sound) at (g .start)) in
-      rw (slot-live, word-sound, o .0, o .1, o .2, tick-back (e .real), lt-ltb (e .partition) 8 (omega (arith, g .partition)), sym (address-good (e .page)) ∙ g .range, eq-eqb _ _ start, flag-parts (e .locked) mark .2)
+      let partition : ltb (e .partition) 8 ≡ true = lt-ltb (e .partition) 8 (omega (arith, g .partition)) in
+      let range : inRange (e .page) ≡ true = sym (address-good (e .page)) ∙ g .range in
+      rw (slot-live, word-sound, o .0, o .1, o .2, tick-back (e .real), partition, range, eq-eqb _ _ start, flag-parts (e .locked) used .2)
       (real-zero (e .real) (g .real))
     where
       real-zero : (r : Bool) → (r ≡ true → e .context ≡ 0) → ((not r || eqb (e .context) 0) && true) ≡ true
       real-zero true h = rw (h refl)
       real-zero false h = refl
 
-slots-back : (s : List Place) → ((i : ℕ) (e : Entry) (mark : Bool) → getD s i empty ≡ filled e mark → EntryGood e) → map placeIn (map slotFor s) ≡ s
+slots-back : (s : List Place) → ((i : ℕ) (e : Entry) (used : Bool) → getD s i empty ≡ filled e used → EntryGood e) → map placeIn (map slotFor s) ≡ s
 slots-back [] h = refl
 slots-back (empty ∷ r) h = ap (λ (t : List Place). empty ∷ t) (slots-back r (λ i. h (suc i)))
-slots-back (filled e mark ∷ r) h = ap₂ (λ y t. y ∷ t) (slot-back e mark (h 0 e mark refl)) (slots-back r (λ i. h (suc i)))
+slots-back (filled e used ∷ r) h = ap₂ (λ y t. y ∷ t) (slot-back e used (h 0 e used refl)) (slots-back r (λ i. h (suc i)))
 
-slots-good : (s : List Place) → ((i : ℕ) (e : Entry) (mark : Bool) → getD s i empty ≡ filled e mark → EntryGood e) → allOf slotSound (map slotFor s) ≡ true
+slots-good : (s : List Place) → ((i : ℕ) (e : Entry) (used : Bool) → getD s i empty ≡ filled e used → EntryGood e) → allOf slotSound (map slotFor s) ≡ true
 unfolding allOf
 slots-good [] h = refl
 slots-good (empty ∷ r) h = and-both _ _ no-slot-sound (slots-good r (λ i. h (suc i)))
-slots-good (filled e mark ∷ r) h = and-both _ _ (slot-good e mark (h 0 e mark refl)) (slots-good r (λ i. h (suc i)))
+slots-good (filled e used ∷ r) h = and-both _ _ (slot-good e used (h 0 e used refl)) (slots-good r (λ i. h (suc i)))
 
 -- no two overlap
 none-overlap : (s : List Place) → anyOf (overlaps noSlot) (map slotFor s) ≡ false
@@ -185,27 +187,28 @@ unfolding anyOf overlaps
 none-overlap [] = refl
 none-overlap (x ∷ r) = none-overlap r
 
-module _ (e : Entry) (mark : Bool) (g : EntryGood e) where
+module _ (e : Entry) (used : Bool) (g : EntryGood e) where
   entry-apart : (s : List Place) → ((i : ℕ) (x : Entry) (b : Bool) → getD s i empty ≡ filled x b → EntryGood x)
-      → ((i : ℕ) (x : Entry) (b : Bool) → getD s i empty ≡ filled x b → overlap e x ≡ false) → anyOf (overlaps (slotFor (filled e mark))) (map slotFor s) ≡ false
+      → ((i : ℕ) (x : Entry) (b : Bool) → getD s i empty ≡ filled x b → overlap e x ≡ false)
+      → anyOf (overlaps (slotFor (filled e used))) (map slotFor s) ≡ false
   unfolding anyOf
   entry-apart [] h k = refl
-  entry-apart (empty ∷ r) h k = rw (none-overlaps (slotFor (filled e mark))) (entry-apart r (λ i. h (suc i)) (λ i. k (suc i)))
+  entry-apart (empty ∷ r) h k = rw (none-overlaps (slotFor (filled e used))) (entry-apart r (λ i. h (suc i)) (λ i. k (suc i)))
   entry-apart (filled x b ∷ r) h k =
       let y = h 0 x b refl in
-      let a : overlaps (slotFor (filled e mark)) (slotFor (filled x b)) ≡ false =
-      overlap-test _ (slot-good e mark g) (slot-live e mark g) .agree _ (slot-good x b y) (slot-live x b y)
-      ∙ rw (slot-entry e mark g, slot-entry x b y) (k 0 x b refl) in
+      let a : overlaps (slotFor (filled e used)) (slotFor (filled x b)) ≡ false =
+      overlap-test _ (slot-good e used g) (slot-live e used g) .agree _ (slot-good x b y) (slot-live x b y)
+      ∙ rw (slot-entry e used g, slot-entry x b y) (k 0 x b refl) in
       rw a (entry-apart r (λ i. h (suc i)) (λ i. k (suc i)))
 
-slots-apart : (s : List Place) → ((i : ℕ) (e : Entry) (mark : Bool) → getD s i empty ≡ filled e mark → EntryGood e)
+slots-apart : (s : List Place) → ((i : ℕ) (e : Entry) (used : Bool) → getD s i empty ≡ filled e used → EntryGood e)
     → ((i j : ℕ) (e x : Entry) (a b : Bool) → i < j → getD s i empty ≡ filled e a → getD s j empty ≡ filled x b → overlap e x ≡ false)
     → pairwise overlaps (map slotFor s) ≡ true
 unfolding pairwise
 slots-apart [] h k = refl
 slots-apart (empty ∷ r) h k = rw (none-overlap r) (slots-apart r (λ i. h (suc i)) (λ i j e x a b c. k (suc i) (suc j) e x a b (omega arith)))
-slots-apart (filled e mark ∷ r) h k =
-    rw (entry-apart e mark (h 0 e mark refl) r (λ i. h (suc i)) (λ i x b f. k 0 (suc i) e x mark b (omega arith) refl f))
+slots-apart (filled e used ∷ r) h k =
+    rw (entry-apart e used (h 0 e used refl) r (λ i. h (suc i)) (λ i x b f. k 0 (suc i) e x used b (omega arith) refl f))
     (slots-apart r (λ i. h (suc i)) (λ i j e x a b c. k (suc i) (suc j) e x a b (omega arith)))
 
 -- the state of a good book
@@ -221,7 +224,8 @@ module _ (n : Counts) (k : Reference) (g : ReferenceGood (slotCount n) k) where
   unfolding registersSound
   file-good =
       and-both _ _ (eq-eqb _ _ (row-length _ 128))
-      (below-all _ 128 (λ i b. ap (λ v. allowed (i % 32) v) (row-at _ 128 i b) ∙ sym (cell-good (i % 32) _) ∙ g .registers (i / 32) (i % 32) (omega arith) (omega arith)))
+      (below-all _ 128 (λ i b.
+      ap (λ v. allowed (i % 32) v) (row-at _ 128 i b) ∙ sym (cell-good (i % 32) _) ∙ g .registers (i / 32) (i % 32) (omega arith) (omega arith)))
 
   file-at : (strand number : ℕ) → strand < 4 → number < 32 → k .ledger .registers strand number ≡ register (stateFor .registers) strand number
   file-at strand number s r =

@@ -1,4 +1,4 @@
--- The unit's slots and the places of the second text: a removal, a mark and an insertion move both alike, and their words are the same. Assumes nothing.
+-- The unit's slots and the places of the second text: a removal, a lookup and an insertion change both alike, and their words are the same. Assumes nothing.
 use Prim.Native.Nat.{ℕ, zero, suc, _+_, _*_, _/_, _%_, _^_, _≤_, _<_}
 use mathlib.Core.Path.{_≡_, refl, ap, ap₂, sym, fun-ext, _∙_}
 use mathlib.Core.Bool.{Bool, true, false, not}
@@ -21,7 +21,7 @@ use Rattle.machine.specs.Sound.{slotSound, sideSound}
 use Rattle.machine.specs.State.{State, sideOf, withSide}
 use Rattle.machine.specs.Frame.{entryIn}
 use Rattle.machine.specs.Ledger.{Entry, overlap}
-use Rattle.machine.specs.Places.{Place, empty, filled, withPlaces, isFree, isUnlocked, isUnmarked, emptied, marked, unmarked, sought, atLowest, withEntry, displacedFrom, placeWords, sideWords}
+use Rattle.machine.specs.Places.{Place, empty, filled, withPlaces, isFree, isUnlocked, isUnused, emptiedWhere, usedWhere, unused, sought, atLowest, withEntry, displacedFrom, placeWords, sideWords}
 use Rattle.machine.specs.declared.Slot.{Slot}
 use Rattle.machine.specs.declared.Wanted.the-variants as wanted
 use Rattle.machine.specs.declared.Choice.{Choice}
@@ -80,84 +80,84 @@ map-where ok f g (x ∷ s) h e = ap₂ (λ y r. y ∷ r) (e x (and-left (ok x) _
 free-slot : (x : Slot) → isEmpty x ≡ isFree (placeIn x)
 free-slot x = by-test (isLive x) (λ l. rw l) (λ l. rw l)
 
-unmarked-slot : (x : Slot) → wants candidate wanted.Unused x ≡ isUnmarked (placeIn x)
+unused-slot : (x : Slot) → wants candidate wanted.Unused x ≡ isUnused (placeIn x)
 unfolding wants
-unmarked-slot x = by-test (isLive x) (λ l. rw l) (λ l. rw l)
+unused-slot x = by-test (isLive x) (λ l. rw l) (λ l. rw l)
 
 unlocked-slot : (x : Slot) → wants candidate wanted.Candidate x ≡ isUnlocked (placeIn x)
 unfolding wants
 unlocked-slot x = by-test (isLive x) (λ l. rw l) (λ l. rw l)
 
-unlocked-cleared : (x : Slot) → wants candidate wanted.Candidate x ≡ isUnlocked (unmarked (placeIn x))
+unlocked-cleared : (x : Slot) → wants candidate wanted.Candidate x ≡ isUnlocked (unused (placeIn x))
 unfolding wants
 unlocked-cleared x = by-test (isLive x) (λ l. rw l) (λ l. rw l)
 
-unmarked-in : (x : Slot) → placeIn (withoutUsed x) ≡ unmarked (placeIn x)
-unmarked-in x =
+unused-in : (x : Slot) → placeIn (withoutUsed x) ≡ unused (placeIn x)
+unused-in x =
     let lock : withoutUsed x .flags % 2 ≡ x .flags % 2 = omega arith in
-    let mark : withoutUsed x .flags / 2 % 2 ≡ 0 = omega arith in
-    by-test (isLive x) (λ l. rw (l, lock, mark)) (λ l. rw l)
+    let used : withoutUsed x .flags / 2 % 2 ≡ 0 = omega arith in
+    by-test (isLive x) (λ l. rw (l, lock, used)) (λ l. rw l)
 
-used-mark : (x : Slot) → withUsed x .flags / 2 % 2 ≡ 1
-used-mark x = omega arith
+used-set : (x : Slot) → withUsed x .flags / 2 % 2 ≡ 1
+used-set x = omega arith
 
 module _ {q : Slot → Bool} {p : Entry → Bool} (t : SameTest q p) where
-  emptied-in : (x : Slot) → slotSound x ≡ true → placeIn (emptiedBy q x) ≡ emptied p (placeIn x)
+  emptied-in : (x : Slot) → slotSound x ≡ true → placeIn (emptiedBy q x) ≡ emptiedWhere p (placeIn x)
   emptied-in x h = by-test (isLive x)
       (λ l. by-test (q x)
       (λ e. let f : p (entryIn x) ≡ true = sym (t .agree x h l) ∙ e in rw (e, l, f))
       (λ e. let f : p (entryIn x) ≡ false = sym (t .agree x h l) ∙ e in rw (e, l, f)))
       (λ l. by-test (q x) (λ e. clash (t .live x e) l) (λ e. rw (e, l)))
 
-  pub emptied-side : (s : List Slot) → sideSound s ≡ true → map placeIn (removed q s) ≡ map (emptied p) (map placeIn s)
+  pub emptied-side : (s : List Slot) → sideSound s ≡ true → map placeIn (removed q s) ≡ map (emptiedWhere p) (map placeIn s)
   unfolding sideSound
   emptied-side s h =
-      map-map placeIn (emptiedBy q) s ∙ map-where slotSound _ _ s (and-left _ _ h) emptied-in ∙ sym (map-map (emptied p) placeIn s)
+      map-map placeIn (emptiedBy q) s ∙ map-where slotSound _ _ s (and-left _ _ h) emptied-in ∙ sym (map-map (emptiedWhere p) placeIn s)
 
-  -- the entry found is marked, and is the only one
-  marked-here : (x : Slot) → slotSound x ≡ true → q x ≡ true → placeIn (withUsed x) ≡ marked p (placeIn x)
-  marked-here x h e =
+  -- the entry found has its used bit set, and no other
+  used-here : (x : Slot) → slotSound x ≡ true → q x ≡ true → placeIn (withUsed x) ≡ usedWhere p (placeIn x)
+  used-here x h e =
       let l : isLive x ≡ true = t .live x e in
       let f : p (entryIn x) ≡ true = sym (t .agree x h l) ∙ e in
       let lock : withUsed x .flags % 2 ≡ x .flags % 2 = omega arith in
-      rw (l, f, lock, used-mark x)
+      rw (l, f, lock, used-set x)
 
-  marked-not : (x : Slot) → slotSound x ≡ true → q x ≡ false → placeIn x ≡ marked p (placeIn x)
-  marked-not x h e = by-test (isLive x)
+  used-not : (x : Slot) → slotSound x ≡ true → q x ≡ false → placeIn x ≡ usedWhere p (placeIn x)
+  used-not x h e = by-test (isLive x)
       (λ l. let f : p (entryIn x) ≡ false = sym (t .agree x h l) ∙ e in rw (l, f))
       (λ l. rw l)
 
-  marked-none : (s : List Slot) → allOf slotSound s ≡ true → count q s ≡ 0 → map placeIn s ≡ map (marked p) (map placeIn s)
+  used-none : (s : List Slot) → allOf slotSound s ≡ true → count q s ≡ 0 → map placeIn s ≡ map (usedWhere p) (map placeIn s)
   unfolding allOf count
-  marked-none [] h z = refl
-  marked-none (x ∷ s) h z = by-test (q x)
+  used-none [] h z = refl
+  used-none (x ∷ s) h z = by-test (q x)
       (λ e. absurd (omega (arith, ap tick e)))
-      (λ e. ap₂ (λ y r. y ∷ r) (marked-not x (and-left _ _ h) e) (marked-none s (and-right (slotSound x) _ h) (omega (arith, ap tick e))))
+      (λ e. ap₂ (λ y r. y ∷ r) (used-not x (and-left _ _ h) e) (used-none s (and-right (slotSound x) _ h) (omega (arith, ap tick e))))
 
-  marked-from : (s : List Slot) (k j : ℕ) → allOf slotSound s ≡ true → count q s ≤ 1 → firstFrom q k s ≡ At j
-      → (i : ℕ) × (j ≡ k + i) × (map placeIn (setUsed i s) ≡ map (marked p) (map placeIn s))
+  used-from : (s : List Slot) (k j : ℕ) → allOf slotSound s ≡ true → count q s ≤ 1 → firstFrom q k s ≡ At j
+      → (i : ℕ) × (j ≡ k + i) × (map placeIn (setUsed i s) ≡ map (usedWhere p) (map placeIn s))
   unfolding firstFrom allOf count
-  marked-from [] k j h one f = absurd (let z : _≡_ {A = ℕ} 0 1 = cc in omega arith)
-  marked-from (x ∷ s) k j h one f = by-test (q x)
+  used-from [] k j h one f = absurd (let z : _≡_ {A = ℕ} 0 1 = cc in omega arith)
+  used-from (x ∷ s) k j h one f = by-test (q x)
       (λ e.
       let at : At k ≡ At j = rw e at f in
       let here : k ≡ j = cc in
-      (0, omega arith, ap₂ (λ y r. y ∷ r) (marked-here x (and-left _ _ h) e) (marked-none s (and-right (slotSound x) _ h) (omega (arith, ap tick e)))))
+      (0, omega arith, ap₂ (λ y r. y ∷ r) (used-here x (and-left _ _ h) e) (used-none s (and-right (slotSound x) _ h) (omega (arith, ap tick e)))))
       (λ e.
-      let (i, n, m) = marked-from s (suc k) j (and-right (slotSound x) _ h) (omega (arith, ap tick e)) (rw e at f) in
-      (suc i, omega arith, ap₂ (λ y r. y ∷ r) (marked-not x (and-left _ _ h) e) m))
+      let (i, n, m) = used-from s (suc k) j (and-right (slotSound x) _ h) (omega (arith, ap tick e)) (rw e at f) in
+      (suc i, omega arith, ap₂ (λ y r. y ∷ r) (used-not x (and-left _ _ h) e) m))
 
-  pub marked-side : (s : List Slot) (i : ℕ) → sideSound s ≡ true → count q s ≤ 1 → first q s ≡ At i
-      → map placeIn (setUsed i s) ≡ map (marked p) (map placeIn s)
+  pub used-side : (s : List Slot) (i : ℕ) → sideSound s ≡ true → count q s ≤ 1 → first q s ≡ At i
+      → map placeIn (setUsed i s) ≡ map (usedWhere p) (map placeIn s)
   unfolding sideSound
-  marked-side s i h one f =
-      let (j, n, m) = marked-from s 0 i (and-left _ _ h) one f in
+  used-side s i h one f =
+      let (j, n, m) = used-from s 0 i (and-left _ _ h) one f in
       let same : j ≡ i = omega arith in
       rw same at m
 
-  pub unmarked-side : (s : List Slot) → sideSound s ≡ true → count q s ≡ 0 → map placeIn s ≡ map (marked p) (map placeIn s)
+  pub unused-side : (s : List Slot) → sideSound s ≡ true → count q s ≡ 0 → map placeIn s ≡ map (usedWhere p) (map placeIn s)
   unfolding sideSound
-  unmarked-side s h z = marked-none s (and-left _ _ h) z
+  unused-side s h z = used-none s (and-left _ _ h) z
 
 -- ---- the place that an insertion takes
 module _ (s : List Slot) where
@@ -182,8 +182,8 @@ module _ (s : List Slot) where
   free-none : nonePasses isFree (map placeIn s) ≡ not (anyOf isEmpty s)
   free-none = none-seen placeIn isEmpty isFree free-slot s
 
-  unmarked-none : nonePasses isUnmarked (map placeIn s) ≡ not (anyOf (wants candidate wanted.Unused) s)
-  unmarked-none = none-seen placeIn (wants candidate wanted.Unused) isUnmarked unmarked-slot s
+  unused-none : nonePasses isUnused (map placeIn s) ≡ not (anyOf (wants candidate wanted.Unused) s)
+  unused-none = none-seen placeIn (wants candidate wanted.Unused) isUnused unused-slot s
 
   -- whom it displaces
   way-by : (c : Choice) → ChosenBy c → (x : Slot) → isLive x ≡ true → displacedBy s c ≡ Displaced x → displacedFrom (map placeIn s) ≡ some (entryIn x)
@@ -192,19 +192,19 @@ module _ (s : List Slot) where
   way-by (Unused i) h x l d =
       let there : getD s i noSlot ≡ x = cc in
       let a : nonePasses isFree (map placeIn s) ≡ true = free-none ∙ ap not (found-none noSlot isEmpty s (h .0)) in
-      let b : nonePasses isUnmarked (map placeIn s) ≡ false = unmarked-none ∙ ap not (found-any noSlot _ s i (h .1)) in
-      let f = lowest placeIn (wants candidate wanted.Unused) isUnmarked unmarked-slot empty noSlot s i (h .1) .0 in
+      let b : nonePasses isUnused (map placeIn s) ≡ false = unused-none ∙ ap not (found-any noSlot _ s i (h .1)) in
+      let f = lowest placeIn (wants candidate wanted.Unused) isUnused unused-slot empty noSlot s i (h .1) .0 in
       rw (a, b, f, there, l)
   way-by (Cleared i) h x l d =
       let there : getD s i noSlot ≡ x = cc in
       let a : nonePasses isFree (map placeIn s) ≡ true = free-none ∙ ap not (found-none noSlot isEmpty s (h .0)) in
-      let b : nonePasses isUnmarked (map placeIn s) ≡ true = unmarked-none ∙ ap not (found-none noSlot _ s (h .1)) in
+      let b : nonePasses isUnused (map placeIn s) ≡ true = unused-none ∙ ap not (found-none noSlot _ s (h .1)) in
       let f = lowest placeIn (wants candidate wanted.Candidate) isUnlocked unlocked-slot empty noSlot s i (h .2) .0 in
       rw (a, b, f, there, l)
   way-by Full h x l d = absurd (let z : _≡_ {A = ℕ} 0 1 = cc in omega arith)
 
-  cleared-side : map placeIn (clearUsed s) ≡ map (λ x. unmarked (placeIn x)) s
-  cleared-side = map-map placeIn withoutUsed s ∙ ap (λ (f : Slot → Place). map f s) (fun-ext unmarked-in)
+  cleared-side : map placeIn (clearUsed s) ≡ map (λ x. unused (placeIn x)) s
+  cleared-side = map-map placeIn withoutUsed s ∙ ap (λ (f : Slot → Place). map f s) (fun-ext unused-in)
 
   withEntry-by : (c : Choice) → ChosenBy c → isChosen c ≡ true → (new : Slot) (e : Entry) → placeIn new ≡ filled e true
       → map placeIn (stored new s c) ≡ withEntry e (map placeIn s)
@@ -214,14 +214,15 @@ module _ (s : List Slot) where
       rw a (map-set placeIn s i new ∙ rw n (lowest placeIn isEmpty isFree free-slot (filled e true) noSlot s i h .1))
   withEntry-by (Unused i) h y new e n =
       let a : nonePasses isFree (map placeIn s) ≡ true = free-none ∙ ap not (found-none noSlot isEmpty s (h .0)) in
-      let b : nonePasses isUnmarked (map placeIn s) ≡ false = unmarked-none ∙ ap not (found-any noSlot _ s i (h .1)) in
-      rw (a, b) (map-set placeIn s i new ∙ rw n (lowest placeIn (wants candidate wanted.Unused) isUnmarked unmarked-slot (filled e true) noSlot s i (h .1) .1))
+      let b : nonePasses isUnused (map placeIn s) ≡ false = unused-none ∙ ap not (found-any noSlot _ s i (h .1)) in
+      rw (a, b) (map-set placeIn s i new ∙ rw n (lowest placeIn (wants candidate wanted.Unused) isUnused unused-slot (filled e true) noSlot s i (h .1) .1))
   withEntry-by (Cleared i) h y new e n =
       let a : nonePasses isFree (map placeIn s) ≡ true = free-none ∙ ap not (found-none noSlot isEmpty s (h .0)) in
-      let b : nonePasses isUnmarked (map placeIn s) ≡ true = unmarked-none ∙ ap not (found-none noSlot _ s (h .1)) in
-      rw (a, b, map-map unmarked placeIn s)
+      let b : nonePasses isUnused (map placeIn s) ≡ true = unused-none ∙ ap not (found-none noSlot _ s (h .1)) in
+      rw (a, b, map-map unused placeIn s)
       (map-set placeIn (clearUsed s) i new
-      ∙ rw (n, cleared-side) (lowest (λ x. unmarked (placeIn x)) (wants candidate wanted.Candidate) isUnlocked unlocked-cleared (filled e true) noSlot s i (h .2) .1))
+      ∙ rw (n, cleared-side)
+      (lowest (λ x. unused (placeIn x)) (wants candidate wanted.Candidate) isUnlocked unlocked-cleared (filled e true) noSlot s i (h .2) .1))
   withEntry-by Full h y new e n = clash y refl
 
 -- an entry that made way is the one that the places pick
@@ -233,8 +234,9 @@ displaced-way new s x d =
     way-by s (choice candidate s) (chosen-by s) x (and-left _ _ (w .allowed)) (rw kept at d)
 
 -- the slots after an insertion for which one was to be had
-pub inserted-side : (new : Slot) → slotSound new ≡ true → isLive new ≡ true → isUsed new ≡ true → (s : List Slot) → sideSound s ≡ true → hasSlot candidate new s ≡ true
-    → map placeIn (inserted candidate new s) ≡ withEntry (entryIn new) (map (emptied (overlap (entryIn new))) (map placeIn s))
+pub inserted-side : (new : Slot) → slotSound new ≡ true → isLive new ≡ true → isUsed new ≡ true
+    → (s : List Slot) → sideSound s ≡ true → hasSlot candidate new s ≡ true
+    → map placeIn (inserted candidate new s) ≡ withEntry (entryIn new) (map (emptiedWhere (overlap (entryIn new))) (map placeIn s))
 unfolding inserted placed
 inserted-side new k l m s h y =
     let kept : List Slot = removed (overlaps new) s in
@@ -251,7 +253,11 @@ inserted-side new k l m s h y =
 -- ---- a side of two
 module _ {u : State} {p : ℕ → List Place} (h : PlacesAlike u p) (side : ℕ) (b : side < 2) where
   pub places-with : (s : List Slot) {m : List Place} → map placeIn s ≡ m → PlacesAlike (withSide u side s) (withPlaces p side m)
-  places-with s {m} e = record { at = λ other c. by-test (eqb other side) (λ t. rw (t, eqb-true other side t) (here side b)) (λ t. rw t (there side other b c (eqb-false other side t))) }
+  places-with s {m} e = record {
+    at = λ other c. by-test (eqb other side)
+        (λ t. rw (t, eqb-true other side t) (here side b))
+        (λ t. rw t (there side other b c (eqb-false other side t)));
+  }
     where
       here : (k : ℕ) → k < 2 → m ≡ map placeIn (sideOf (withSide u k s) k)
       here zero l = sym e

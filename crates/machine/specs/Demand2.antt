@@ -4,7 +4,7 @@ use Prim.Native.Nat.{ℕ, _+_, _^_, _<_}
 use mathlib.Core.Path.{_≡_}
 use mathlib.Core.Bool.{true, cond}
 use lib.Dec.{ltb}
-use Rattle.machine.specs.Words.{unpacked, packed}
+use Rattle.machine.specs.Words.{unpacked, packed, fields}
 use Rattle.machine.specs.State.{Counts, State, sound}
 use Rattle.machine.specs.Step.{step}
 use Rattle.machine.specs.Ledger.{bit}
@@ -41,7 +41,9 @@ pub record Demand2 : Type 0 where
   pub unpacks : (w : ℕ) → Fields (IsBits w) (unpacked w)
   -- of all fields, also those that do not fit
   pub packs : (t : Tte) → Fields (HasBits (packed t)) t × (packed t < 2 ^ 64)
-  -- "each entry word unpacked and packed again is that word"
+  -- fields below their widths are all that coming back asks for
+  pub fit : (t : Tte) → Fields (λ k n field. field < 2 ^ n) t → fields t ≡ true
+  -- a word unpacked and packed again is that word
   pub back : (w : ℕ) → w < 2 ^ 64 → packed (unpacked w) ≡ w
-  -- "Physical ones are below 2^40", of a hit and of a bypass
+  -- the address of a hit and of a bypass
   pub physical : (n : Counts) (u : State) (c : Command) (t : Translation) → sound n u ≡ true → step u c .answer ≡ answer.Physical t → t .address .0 < 2 ^ 40

@@ -22,14 +22,14 @@ pub record EntryGood (e : Entry) : Type 0 where
 -- ---- a side of n places: none of its entries overlap
 pub record SideGood (n : ℕ) (s : List Place) : Type 0 where
   pub size : length s ≡ n
-  pub entries : (i : ℕ) (e : Entry) (mark : Bool) → getD s i empty ≡ filled e mark → EntryGood e
+  pub entries : (i : ℕ) (e : Entry) (used : Bool) → getD s i empty ≡ filled e used → EntryGood e
   pub apart : (i j : ℕ) (e x : Entry) (a b : Bool) → i < j → getD s i empty ≡ filled e a → getD s j empty ≡ filled x b → overlap e x ≡ false
 
 -- the entries of a side, lowest place first
 unfoldable pub entriesIn : List Place → List Entry
 entriesIn [] = []
 entriesIn (empty ∷ r) = entriesIn r
-entriesIn (filled e mark ∷ r) = e ∷ entriesIn r
+entriesIn (filled e used ∷ r) = e ∷ entriesIn r
 
 -- ---- the whole: a register holds what may be written to it, 20 to 25 anything, and a cell that is no register zero; the ledger lists, in whatever order, what
 -- stands in the places
@@ -40,6 +40,6 @@ pub record ReferenceGood (n : ℕ → ℕ) (k : Reference) : Type 0 where
   pub sides : (side : ℕ) → side < 2 → SideGood (n side) (k .places side)
   pub listed : (side : ℕ) → side < 2 → (p : Entry → Bool) → howMany p (k .ledger .entries side) ≡ howMany p (entriesIn (k .places side))
 
--- that empty slots are zero, and that the words of a live one hold its entry, its mark and nothing more, is said by `referenceWords`
+-- that empty slots are zero, and that the words of a live one hold its entry, its used bit and nothing more, is said by `referenceWords`
 abbrev pub GoodWords : (ℕ → ℕ) → List ℕ → Type 0
 GoodWords n words = (k : Reference) × ReferenceGood n k × (words ≡ referenceWords k)

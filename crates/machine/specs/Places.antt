@@ -1,5 +1,5 @@
--- Document 01's slots and marks as their own text, beside the ledger: what each command does to the places of a side, whom an insertion displaces, and the
--- words in which a caller sees it all. It goes by the ledger's registers, lists and tests, and by nothing of the unit.
+-- Document 01's slots and marks (used bits) as their own text, beside the ledger: what each command does to the places of a side, whom an insertion displaces,
+-- and the words in which a caller sees it all. It goes by the ledger's registers, lists and tests, and by nothing of the unit.
 -- Assumes nothing.
 use Prim.Native.Nat.{ℕ, zero, suc, _+_, _*_, _/_, _%_, _^_}
 use mathlib.Core.Bool.{Bool, true, false, not, cond, _&&_, _||_}
@@ -13,7 +13,7 @@ use Rattle.machine.specs.declared.Command.{Command}
 use Rattle.machine.specs.declared.Command.the-variants as command
 
 -- ---- a place
--- a slot: it is empty, or holds an entry, with a mark (true) or without
+-- a slot: it is empty, or holds an entry and its used bit (document 01's mark)
 pub data Place : Type 0 where
   empty : Place
   filled : Entry → Bool → Place
@@ -27,51 +27,51 @@ pub record Reference : Type 0 where
   pub ledger : Ledger
   pub places : ℕ → List Place
 
--- the three that an insertion may look for: empty; unlocked; unlocked and without a mark
+-- the three that an insertion may look for: empty; unlocked; unlocked and unused
 abbrev pub isFree : Place → Bool
 isFree empty = true
-isFree (filled e mark) = false
+isFree (filled e used) = false
 
 abbrev pub isUnlocked : Place → Bool
 isUnlocked empty = false
-isUnlocked (filled e mark) = unlocked e
+isUnlocked (filled e used) = unlocked e
 
-abbrev pub isUnmarked : Place → Bool
-isUnmarked empty = false
-isUnmarked (filled e mark) = unlocked e && not mark
+abbrev pub isUnused : Place → Bool
+isUnused empty = false
+isUnused (filled e used) = unlocked e && not used
 
--- emptied where the test takes the entry: lock and mark go with it
-abbrev pub emptied : (Entry → Bool) → Place → Place
-emptied p empty = empty
-emptied p (filled e mark) = cond (p e) empty (filled e mark)
+-- emptied where the test takes the entry: lock and used bit go with it
+abbrev pub emptiedWhere : (Entry → Bool) → Place → Place
+emptiedWhere p empty = empty
+emptiedWhere p (filled e used) = cond (p e) empty (filled e used)
 
--- marked where the test finds the entry
-abbrev pub marked : (Entry → Bool) → Place → Place
-marked p empty = empty
-marked p (filled e mark) = filled e (p e || mark)
+-- its used bit set where the test finds the entry
+abbrev pub usedWhere : (Entry → Bool) → Place → Place
+usedWhere p empty = empty
+usedWhere p (filled e used) = filled e (p e || used)
 
-abbrev pub unmarked : Place → Place
-unmarked empty = empty
-unmarked (filled e mark) = filled e false
+abbrev pub unused : Place → Place
+unused empty = empty
+unused (filled e used) = filled e false
 
 -- ---- which place an insertion takes, once those overlapped are gone
--- an empty one; else an unlocked one without a mark; else an unlocked one
+-- an empty one; else an unlocked and unused one; else an unlocked one
 unfoldable pub sought : List Place → Place → Bool
-sought s = cond (nonePasses isFree s) (cond (nonePasses isUnmarked s) isUnlocked isUnmarked) isFree
+sought s = cond (nonePasses isFree s) (cond (nonePasses isUnused s) isUnlocked isUnused) isFree
 
 -- the lowest that passes holds the new one
 unfoldable pub atLowest : (Place → Bool) → Place → List Place → List Place
 atLowest p new [] = []
 atLowest p new (x ∷ r) = cond (p x) (new ∷ r) (x ∷ atLowest p new r)
 
--- the new entry, marked, in the lowest place sought; where none is empty and all unlocked ones have marks, all marks of the side go first
+-- the new entry, its used bit set, in the lowest place sought; where none is empty and all unlocked ones are used, all used bits of the side are cleared first
 unfoldable pub withEntry : Entry → List Place → List Place
-withEntry e s = atLowest (sought s) (filled e true) (cond (nonePasses isFree s && nonePasses isUnmarked s) (map unmarked s) s)
+withEntry e s = atLowest (sought s) (filled e true) (cond (nonePasses isFree s && nonePasses isUnused s) (map unused s) s)
 
 abbrev pub entryAt : Option Place → Option Entry
 entryAt none = none
 entryAt (some empty) = none
-entryAt (some (filled e mark)) = some e
+entryAt (some (filled e used)) = some e
 
 -- the entry that makes way: the one in that place
 unfoldable pub displacedFrom : List Place → Option Entry
@@ -85,9 +85,9 @@ withPlaces p side s k = cond (eqb k side) s (p k)
 abbrev pub each : Reference → ℕ → (Place → Place) → ℕ → List Place
 each k side f = withPlaces (k .places) side (map f (k .places side))
 
--- an access that comes to the lookup marks the entry found
+-- an access that looks up sets the used bit of the entry found
 abbrev pub accessed : Reference → Asked → ℕ → List Place
-accessed k a = cond (looksUp (k .ledger) a) (each k (askedSide a) (marked (foundBy (k .ledger) a))) (k .places)
+accessed k a = cond (looksUp (k .ledger) a) (each k (askedSide a) (usedWhere (foundBy (k .ledger) a))) (k .places)
 
 -- of a command that none of 5 to 12 refused: what the ledger strikes leaves an empty place; n is the slot count of each side
 unfoldable pub moved : (ℕ → ℕ) → Reference → Command → ℕ → List Place
@@ -95,13 +95,13 @@ moved n k (command.Write strand number value) = k .places
 moved n k (command.Insert strand side flags word) =
     let e : Entry = newEntry (k .ledger) strand side flags word in
     cond (lacksSlot (n side) e (k .ledger .entries side)) (k .places)
-    (withPlaces (k .places) side (withEntry e (map (emptied (overlap e)) (k .places side))))
+    (withPlaces (k .places) side (withEntry e (map (emptiedWhere (overlap e)) (k .places side))))
 moved n k (command.DemapPage strand side selector flags address) =
-    each k side (emptied (isAt (k .ledger .registers strand 0) (eqb flags 1) (contextPicked (k .ledger) strand selector) address))
+    each k side (emptiedWhere (isAt (k .ledger .registers strand 0) (eqb flags 1) (contextPicked (k .ledger) strand selector) address))
 moved n k (command.DemapContext strand side selector) =
-    each k side (emptied (inContext (k .ledger .registers strand 0) (contextPicked (k .ledger) strand selector)))
-moved n k (command.DemapAll strand side) = each k side (emptied (inPartition (k .ledger .registers strand 0)))
-moved n k (command.Invalidate side) = each k side (emptied (λ e. true))
+    each k side (emptiedWhere (inContext (k .ledger .registers strand 0) (contextPicked (k .ledger) strand selector)))
+moved n k (command.DemapAll strand side) = each k side (emptiedWhere (inPartition (k .ledger .registers strand 0)))
+moved n k (command.Invalidate side) = each k side (emptiedWhere (λ e. true))
 moved n k (command.Access strand kind selector size address) =
     accessed k (record { strand = strand; kind = kind; selector = selector; size = size; used = usedAddress (k .ledger) strand (address .0) })
 moved n k (command.Read strand number) = k .places
@@ -121,11 +121,11 @@ abbrev pub referenceStart : (ℕ → ℕ) → Reference
 referenceStart n = record { ledger = start; places = λ side. replicate (n side) empty }
 
 -- ---- words
--- four to a place: whose the entry is (partition, realness, context), its page, its word, its lock and mark; an empty one holds zeros
+-- four to a place: whose the entry is (partition, realness, context), its page, its word, its lock and used bit; an empty one holds zeros
 abbrev pub placeWords : Place → List ℕ
 placeWords empty = 0 ∷ 0 ∷ 0 ∷ 0 ∷ []
-placeWords (filled e mark) =
-    (e .partition * 2 ^ 14 + oneIf (e .real) * 2 ^ 13 + e .context) ∷ e .page ∷ e .word ∷ (oneIf (e .locked) + 2 * oneIf mark) ∷ []
+placeWords (filled e used) =
+    (e .partition * 2 ^ 14 + oneIf (e .real) * 2 ^ 13 + e .context) ∷ e .page ∷ e .word ∷ (oneIf (e .locked) + 2 * oneIf used) ∷ []
 
 unfoldable pub sideWords : List Place → List ℕ
 sideWords [] = []

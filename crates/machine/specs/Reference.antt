@@ -1,5 +1,5 @@
--- The ledger with its places by itself: fed the bytes of a run and nothing of the unit, it tells every byte of the answers, every word of the state and the numbers
--- returned. What each call is held to.
+-- The ledger with its places by itself: fed the bytes of a run and nothing of the unit, it tells every byte of the answers, every word of the state and the
+-- numbers returned. What each call is held to.
 -- Assumes nothing.
 use Prim.Native.Nat.{ℕ, _+_, _*_, _-_}
 use mathlib.Core.Path.{_≡_}

@@ -35,7 +35,7 @@ run-call words input output left written r e =
 -- a reset that comes to the unit's
 pub reset-call : (words left : List ℕ) (number : ℕ) → left ≡ resetOf counts words → number ≡ resetNumber counts words
     → (left ≡ resetOf counts words) × ((number ≡ resetNumber counts words) × ResetTold slots words left number)
-reset-call words left number e f = (e, (f, subst (λ (l : List ℕ). ResetTold slots words l number) (sym e) (subst (ResetTold slots words _) (sym f) (sold .reset words))))
+reset-call words left number e f = (e, (f, rw (e, f) (sold .reset words)))
 
 -- the fields of a word, and the word of fields
 pub unpack-call : (word : ℕ) (r : Tte) → r ≡ unpacked word → packed r ≡ word → (r ≡ unpacked word) × ((packed r ≡ word) × Fields (IsBits word) r)

@@ -26,8 +26,10 @@ unfolding Framed
 framed = frame
 
 returns : tie.Need-returns
-returns c =
-    ((refl, answer-length), (told, (sold, (readable, (demand1, (demand2, (demand3, (described, (kept, (framed, (unseen, (decodes, (starred, printed-run)))))))))))))
+returns c = (
+  (refl, answer-length),
+  (told, (sold, (readable, (demand1, (demand2, (demand3, (described, (kept, (framed, (unseen, (decodes, (starred, printed-run)))))))))))),
+)
 
 pub answer-width-spec : {M : Type 1} → statement M
 answer-width-spec = tie.close (tie.spec returns)
