@@ -1,6 +1,5 @@
-// Two worked examples of the paper: which entry an insertion removes, and which it displaces. First each on an empty side of 64 slots
-// by itself; then, in `commands`, through the whole unit.
-// The numbers printed stand in keys and entries or are what the library answers.
+// Two worked examples of the paper: which entry an insertion removes, and which it displaces. Each on an empty side of 64 slots by itself
+// and, beside it, by commands to the whole unit. The numbers printed stand in keys and entries or are what the library answers.
 mod commands;
 
 ghost use mathlib.Core.Path.{_≡_};
@@ -8,6 +7,7 @@ ghost use mathlib.Core.Bool.{false};
 ghost use Prim.Native.Nat.{_+_, _-_, _*_, _<_, _≤_, _%_};
 ghost use lib.ListN.{length};
 ghost use Rattle.machine.specs.Slots.{slotsOf, search};
+ghost use Rattle.machine.specs.State.{counts, stateWords};
 ghost use Rattle.machine.specs.Insertion.{entryOf};
 ghost use Rattle.machine.specs.declared.Key.the-variants.{Virtual};
 ghost use Rattle.examples.specs.Lookup.{foundSlot};
@@ -29,12 +29,13 @@ fn key(context: u64, address: u64) -> Key
     }
 }
 
-// An unlocked entry whose word has v, cp and w set and maps to 0x80000. Size code 0 is 8 KB, 1 is 64 KB.
+// An unlocked entry whose word has v, cp and w set. Size code 0 is 8 KB and maps to 0x80000, 1 is 64 KB and maps to 0x100000, so that a load
+// tells which one answers.
 fn entry(key: Key, code: u64) -> Slot
     requires { ⌜ code < 2 ⌝ }
-    ensures { λ r. ⌜ r ≡ entryOf key false (0x8000000000080440 + code) ⌝ }
+    ensures { λ r. ⌜ r ≡ entryOf key false (0x8000000000080440 + code * 0x80001) ⌝ }
 {
-    tlb_update::new_entry(key, false, 0x8000_0000_0008_0440 + code)
+    tlb_update::new_entry(key, false, 0x8000_0000_0008_0440 + code * 0x8_0001)
 }
 
 // The entry that answers to a key, or an empty slot.
@@ -103,13 +104,20 @@ fn print_side(slots: &mut [u64])
 fn overlap(first: u64, second: u64) {
     let mut side = [0u64; 256];
     let slots: &mut [u64] = &mut side;
+    let mut words = [0u64; commands::STATE_WORDS];
+    let state: &mut [u64] = &mut words;
     let small = entry(key(first, 0x40_2000), 0);
     let large = entry(key(second, 0x40_0000), 1);
     tlb_update::insert(slots, small);
     tlb_update::insert(slots, large);
+    state::reset(state);
+    commands::insert(state, small);
+    commands::insert(state, large);
     print_heading(small, b", then ", large);
     print_lookup(slots, first, 0x40_2000);
+    commands::print_load(state, first, 0x40_2008);
     print_side(slots);
+    commands::print_live(state);
 }
 
 // The key of insertion q, from 1: 8 KB pages one after the other.
@@ -134,22 +142,30 @@ fn print_displaced(q: u64, old: Slot, new: Found) {
 }
 
 // Insertion q, and what it displaces.
-fn insertion(slots: &mut [u64], q: u64)
-    requires { ⌜ (length (now slots) % 4 ≡ 0) × (1 ≤ q) × (q ≤ 66) ⌝ }
+fn insertion(slots: &mut [u64], state: &mut [u64], q: u64)
+    requires { ⌜ (length (now slots) % 4 ≡ 0) × (length (now state) ≡ stateWords counts) × (1 ≤ q) × (q ≤ 66) ⌝ }
 {
     let new = numbered(q);
     if let Placed::Displaced(old) = tlb_update::insert(slots, entry(new, 0)) {
         print_displaced(q, old, tlb::search(slots, new));
     }
+    let reply = commands::insert(state, entry(new, 0));
+    if reply.kind == commands::DISPLACED {
+        commands::print_displaced(
+            q,
+            reply.first,
+            state::search_side(state, commands::SIDE, new),
+        );
+    }
 }
 
 // Insertions 1 to 66.
-fn insertions(slots: &mut [u64])
-    requires { ⌜ length (now slots) % 4 ≡ 0 ⌝ }
+fn insertions(slots: &mut [u64], state: &mut [u64])
+    requires { ⌜ (length (now slots) % 4 ≡ 0) × (length (now state) ≡ stateWords counts) ⌝ }
 {
     let mut q = 1;
     while q <= 66 {
-        insertion(slots, q);
+        insertion(slots, state, q);
         q += 1;
     }
 }
@@ -158,21 +174,19 @@ fn insertions(slots: &mut [u64])
 fn displacement() {
     let mut side = [0u64; 256];
     let slots: &mut [u64] = &mut side;
-    print_heading(
-        entry(numbered(1), 0),
-        b", and so on to ",
-        entry(numbered(66), 0),
-    );
-    insertions(slots);
+    let mut words = [0u64; commands::STATE_WORDS];
+    let state: &mut [u64] = &mut words;
+    let first = entry(numbered(1), 0);
+    let last = entry(numbered(66), 0);
+    state::reset(state);
+    print_heading(first, b", and so on to ", last);
+    insertions(slots, state);
     print_side(slots);
+    commands::print_live(state);
 }
 
 fn main() {
     overlap(5, 5);
     overlap(5, 6);
     displacement();
-    io::write_all(1, b"Through commands:\n");
-    commands::overlap(5, 5);
-    commands::overlap(5, 6);
-    commands::displacement();
 }

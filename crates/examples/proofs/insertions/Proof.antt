@@ -1,4 +1,4 @@
--- `examples::insertions` meets its contract: the slots keep their length.
+-- `examples::insertions` meets its contract: slots and state keep their lengths.
 use Prim.Native.Nat.{_≤_, _-_}
 use mathlib.Core.Path.{_≡_}
 use native.Mathlib.Omega.{arith}
@@ -8,10 +8,10 @@ use Rattle.examples.proofs.insertions.Statement.{statement}
 use Rattle.examples.proofs.insertions.Tie as tie
 
 abbrev Inv-loop : tie.InvT-loop
-Inv-loop slots₀ q₀ slots q = (length slots ≡ length slots₀) × (1 ≤ q) × (q ≤ 67)
+Inv-loop slots₀ state₀ q₀ slots state q = (length slots ≡ length slots₀) × (length state ≡ length state₀) × (1 ≤ q) × (q ≤ 67)
 
 abbrev μ-loop : tie.MeasureT-loop
-μ-loop slots₀ q₀ slots q = 67 - q
+μ-loop slots₀ state₀ q₀ slots state q = 67 - q
 
 loop-holds : tie.Need-loop-holds Inv-loop μ-loop
 loop-holds c = search needs
@@ -31,6 +31,9 @@ loop-again c = search needs
 same-length : tie.Need-same-length Inv-loop μ-loop
 same-length c = search needs
 
+same-length-2 : tie.Need-same-length-2 Inv-loop μ-loop
+same-length-2 c = search needs
+
 returns : tie.Need-returns Inv-loop μ-loop
 returns c = search needs
 
@@ -46,4 +49,5 @@ insertions-spec =
     loop-less
     loop-again
     same-length
+    same-length-2
     returns)
