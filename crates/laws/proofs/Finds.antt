@@ -9,7 +9,7 @@ use native.Mathlib.Omega.{arith}
 use lib.Dec.{eqb}
 use lib.ListN.{length, getD}
 use borrow.Author.Tests.{eq-eqb, ne-eqb}
-use Rattle.laws.specs.Tests.{tick, count, anyOf, allOf, firstFrom, first}
+use Rattle.laws.specs.Tests.{tick, count, anyOf, allOf}
 use Rattle.laws.specs.Passing.{passing, howMany, nonePasses, without, find}
 use Rattle.laws.proofs.Bools.{by-test, clash, and-both, and-left, and-right}
 use Rattle.laws.proofs.Counts.{count-at, count-le, count-split, count-any, none-count}
@@ -90,14 +90,6 @@ module _ {A : Type 0} where
   unfolding count allOf
   count-where ok p q [] h k = refl
   count-where ok p q (x ∷ l) h k = omega (arith, ap tick (k x (and-left (ok x) _ h)), count-where ok p q l (and-right (ok x) _ h) k)
-
-  pub first-where : (ok p q : A → Bool) (l : List A) → allOf ok l ≡ true → ((x : A) → ok x ≡ true → p x ≡ q x) → first p l ≡ first q l
-  unfolding firstFrom allOf
-  first-where ok p q l h k = from l 0 h
-    where
-      from : (r : List A) (i : ℕ) → allOf ok r ≡ true → firstFrom p i r ≡ firstFrom q i r
-      from [] i h = refl
-      from (x ∷ r) i h = rw (k x (and-left (ok x) _ h), from r (suc i) (and-right (ok x) _ h))
 
   -- ---- none passes
   pub zero-none : (p : A → Bool) (l : List A) → eqb (count p l) 0 ≡ not (anyOf p l)

@@ -7,7 +7,7 @@ use mathlib.Core.List.{List, _++_}
 use native.Mathlib.Nat.{zero-add, add-zero}
 use native.Mathlib.Omega.{arith}
 use borrow.Author.Tests.{ltb-true, ltb-false, lt-ltb, le-ltb}
-use lib.Dec.{T, eqb, leb, ltb, lit<, lit≤}
+use lib.Dec.{T, eqb, leb, ltb, lit≤}
 use lib.ListN.{length, take, drop}
 use lib.Seq.{sets, length-sets}
 use Rattle.laws.proofs.Bools.{by-test}
@@ -21,10 +21,10 @@ use Rattle.machine.specs.declared.Decoded.the-variants.{Known, Stop}
 use Rattle.machine.proofs.Bytes.{answer-length, answers-length}
 
 -- ---- what is decoded
--- a command has two bytes at least and lies within the input; a stop is 2 or 3
+-- a command has two bytes at least and lies within the input
 unfoldable Within : Bytes → ℕ → Decoded → Type 0
 Within s at (Known c width) = (2 ≤ width) × (at + width ≤ length s)
-Within s at (Stop k) = (1 < k) × (k < 4)
+Within s at (Stop k) = Unit {0}
 
 module _ (s : Bytes) (at : ℕ) where
   -- one command byte of the decoder
@@ -32,27 +32,19 @@ module _ (s : Bytes) (at : ℕ) where
   unfolding Within
   arm false width c others h o = o
   arm true width c others h o = by-test (ltb (length s - at) width)
-      (λ e. rw e (lit< tt, lit< tt))
+      (λ e. rw e tt)
       (λ e. let f : (2 ≤ width) × (width ≤ length s - at) = (lit≤ h, ltb-false _ _ e) in rw e (f .0, omega arith))
 
-  unknown : Within s at (Stop 2)
-  unfolding Within
-  unknown = (lit< tt, lit< tt)
-
   decode-within : Within s at (decodeAt s at)
-  unfolding decodeAt
+  unfolding decodeAt Within
   decode-within =
       let is : ℕ → Bool = eqb (byte s at) in
       arm (is 1) 11 _ _ tt (arm (is 2) 12 _ _ tt (arm (is 3) 13 _ _ tt (arm (is 4) 4 _ _ tt (arm (is 5) 3 _ _ tt
-      (arm (is 6) 2 _ _ tt (arm (is 7) 13 _ _ tt (arm (is 8) 3 _ _ tt (arm (is 9) 3 _ _ tt unknown))))))))
+      (arm (is 6) 2 _ _ tt (arm (is 7) 13 _ _ tt (arm (is 8) 3 _ _ tt (arm (is 9) 3 _ _ tt tt))))))))
 
   pub decode-width : {c : Command} {width : ℕ} → decodeAt s at ≡ Known c width → (2 ≤ width) × (at + width ≤ length s)
   unfolding Within
   decode-width e = rw e at decode-within
-
-  pub decode-stop : {k : ℕ} → decodeAt s at ≡ Stop k → (1 < k) × (k < 4)
-  unfolding Within
-  decode-stop e = rw e at decode-within
 
 -- ---- what a run takes
 -- from a position, with room left: `takes` where its turns are enough

@@ -17,7 +17,7 @@ use Rattle.laws.specs.declared.Found.the-variants.{At, Nothing}
 use Rattle.laws.proofs.Bools.{by-test, clash, both-ways, and-both, and-left, and-right, and-no}
 use Rattle.laws.proofs.Counts.{count-append, count-passing, count-none, count-all, count-rest, count-at, count-one, count-le, none-count}
 use Rattle.laws.proofs.Walks.{found-at, found-none}
-use Rattle.laws.proofs.Finds.{count-index, find-zero, find-only, removed-once, count-where, zero-none, without-none, how-many, none-passes}
+use Rattle.laws.proofs.Finds.{count-index, find-zero, find-only, removed-once, count-where, zero-none, without-none, how-many}
 use Rattle.machine.specs.Pages.{listed, pageShift, pageSize, pageStart}
 use Rattle.machine.specs.Words.{wordSound}
 use Rattle.machine.specs.Slots.{noSlot, isLive, sizeCode, partitionOf, isReal, contextOf, holds, answersTo, withUsed, withoutUsed, setUsed}
@@ -270,8 +270,6 @@ pub record DisplacedSays (n : ℕ) (new : Slot) (s : List Slot) (m : List Entry)
   pub live : isLive x ≡ true
   pub sound : slotSound x ≡ true
   pub free : unlocked (entryIn x) ≡ true
-  pub index : ℕ
-  pub there : getD s index noSlot ≡ x
   pub listed : Live (entryIn x) m
   pub found : (d : Name) → isNamed d (entryIn x) ≡ true → find (λ e. isNamed d e && unlocked e) m ≡ some (entryIn x)
   pub after : (d : Name) → isNamed d (entryIn x) ≡ true → SideAlike n (inserted candidate new s) (without (isNamed d) m ++ (entryIn new ∷ []))
@@ -426,8 +424,6 @@ module _ {n : ℕ} {s : List Slot} {m : List Entry} (h : SideAlike n s m) where
           live = lx;
           sound = rw (w .there) at (sound-slot s i (h .sound));
           free = and-right (isLive x) _ (w .allowed);
-          index = i;
-          there = w .there;
           listed = listed;
           found = λ c t.
               find-only (λ e. isNamed c e && unlocked e) m (entryIn x) (and-both _ _ t (and-right (isLive x) _ (w .allowed))) listed
