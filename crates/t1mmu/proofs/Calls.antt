@@ -7,7 +7,7 @@ use Rattle.machine.specs.State.{counts, resetOf, resetNumber}
 use Rattle.machine.specs.Stream.{Bytes, Outcome, outcome, runOf}
 use Rattle.machine.specs.Words.{unpacked, packed, fields}
 use Rattle.machine.specs.Places.{slots}
-use Rattle.machine.specs.Reference.{RunTold, ResetTold, returned}
+use Rattle.machine.specs.Reference.{RunTold, ResetTold, returned, Told}
 use Rattle.machine.specs.Demand2.{IsBits, HasBits, Fields}
 use Rattle.machine.specs.Demand3.{Demand3}
 use Rattle.machine.specs.declared.Run.{Run}
@@ -19,7 +19,7 @@ use Rattle.t1mmu.specs.Equal.{Equal}
 
 -- a run that comes to the unit's outcome
 pub run-call : (words : List ℕ) (input output : Bytes) (left : List ℕ) (written : Bytes) (r : Run) → outcome left written r ≡ runOf counts words input output
-    → RunTold slots words input output left written r × (Equal (runOf counts words input output) left written r × Demand3 counts)
+    → RunTold slots words input output left written r × (Equal (runOf counts words input output) left written r × (Told counts slots × Demand3 counts))
 run-call words input output left written r e =
     let equal : Equal (runOf counts words input output) left written r = record {
       words = ap (λ (o : Outcome). o .words) e;
@@ -30,7 +30,7 @@ run-call words input output left written r e =
     } in
     let as-told : RunTold slots words input output left written r =
     subst (λ (o : Outcome). RunTold slots words input output (o .words) (o .output) (returned o)) (sym e) (sold .run words input output) in
-    (as-told, (equal, demand3 counts))
+    (as-told, (equal, (sold, demand3 counts)))
 
 -- a reset that comes to the unit's
 pub reset-call : (words left : List ℕ) (number : ℕ) → left ≡ resetOf counts words → number ≡ resetNumber counts words

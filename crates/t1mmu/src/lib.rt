@@ -1,5 +1,6 @@
 // The calls that a buyer links from C or Rust. Nothing is asked of the numbers and lengths that a caller gives; every result, state word and
-// output byte is by a definition of the unit, and again by the second texts (told). A slice is a pointer and a length to C; with length 0 the pointer is not read.
+// output byte is by a definition of the unit, and again by the second texts (told). A slice is a pointer and a length to C; with length 0
+// the pointer is not read.
 ghost use mathlib.Core.Path.{_≡_};
 ghost use mathlib.Core.Bool.{true};
 ghost use lib.ListN.{length};
@@ -7,7 +8,7 @@ ghost use Rattle.machine.specs.State.{counts, stateWords, resetOf, resetNumber}
 ghost use Rattle.machine.specs.Stream.{runOf};
 ghost use Rattle.machine.specs.Words.{unpacked, packed, fields};
 ghost use Rattle.machine.specs.Places.{slots, referenceStart, referenceWords};
-ghost use Rattle.machine.specs.Reference.{RunTold, ResetTold};
+ghost use Rattle.machine.specs.Reference.{RunTold, ResetTold, Told};
 ghost use Rattle.machine.specs.Demand2.{IsBits, HasBits, Fields};
 ghost use Rattle.machine.specs.Demand3.{Demand3};
 ghost use Rattle.t1mmu.specs.Equal.{Equal};
@@ -43,13 +44,14 @@ pub extern "C" fn t1mmu_reset(state: &mut [u64]) -> u8
 }
 
 // Runs the commands of the input on the state. `told` holds it to the ledger with its places, in no word of the unit; `equal` to the unit's
-// definition, of which `demand3` speaks.
+// definition, of which `lists` says the same over every list of runs, and `demand3` what document 01's demand 3 asks.
 #[no_mangle]
 pub extern "C" fn t1mmu_run(state: &mut [u64], input: &[u8], output: &mut [u8]) -> Run
     ensures told { λ r. ⌜ RunTold slots (now (state .entry)) (now (input .entry)) (now (output .entry))
         (now (state .exit)) (now (output .exit)) r ⌝ }
     ensures equal { λ r. ⌜ Equal (runOf counts (now (state .entry)) (now (input .entry)) (now (output .entry)))
         (now (state .exit)) (now (output .exit)) r ⌝ }
+    ensures lists { λ r. ⌜ Told counts slots ⌝ }
     ensures demand3 { λ r. ⌜ Demand3 counts ⌝ }
 {
     stream::run(state, input, output)
