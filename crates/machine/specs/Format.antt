@@ -67,7 +67,7 @@ pub record Reading : Type 0 where
 abbrev pub ReadAs : List ℕ → ℕ → Reading → Type 0
 ReadAs s room t = Reads s room (t .commands) (t .rest) (t .stop)
 
--- all bytes can be read, whatever the room; in one way only, since a call is held to every reading
+-- all bytes can be read, whatever the room. A call is held to every reading, so two of them would have to come to the same
 abbrev pub Readable : Type 0
 Readable = (s : List ℕ) → ((i : ℕ) → getD s i 0 < 256) → (room : ℕ) → (t : Reading) × ReadAs s room t
 

@@ -207,7 +207,7 @@ inserts n l side e d =
     (displaces l side e d (find (λ x. isNamed d x && unlocked x) m))
     (answers (withEntries l side (without (overlap e) m ++ (e ∷ []))) (line 0 0 0 0 0 0)))
 
--- "for a demap the count struck"
+-- a demap answers how many entries it takes
 abbrev pub demaps : Ledger → ℕ → (Entry → Bool) → Written
 demaps l side p = answers (withEntries l side (without p (l .entries side))) (line 0 0 0 0 (howMany p (l .entries side)) 0)
 
