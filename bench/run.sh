@@ -1,6 +1,8 @@
 #!/usr/bin/env bash
-# One table, in markdown: the proved library beside a plain Rust and a plain C unit. Nanoseconds are the best of many rounds in which the
-# three take turns, instructions are callgrind's (no figure without valgrind). T1MMU_LIB names a folder with a libt1mmu.a that is built.
+# Two tables, in markdown: the proved library beside a plain Rust and a plain C unit, and in short runs beside the C unit without its
+# soundness test. Nanoseconds are the best of many rounds in which the contestants take turns, instructions are callgrind's (no figure
+# without valgrind). --only N prints one row of the first table, --runs the second table, --list the rows' numbers. T1MMU_LIB names a
+# folder with a libt1mmu.a that is built.
 set -euo pipefail
 cd "$(dirname "$0")/.."
 mkdir -p target/bench

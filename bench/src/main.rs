@@ -1,10 +1,10 @@
-//! The library beside a plain Rust and a plain C unit: nanoseconds and instructions, as one table.
+//! The library beside a plain Rust and a plain C unit: nanoseconds and instructions, as two tables.
 mod plain;
 mod work;
 
 use std::process::{exit, Command};
 use std::time::Instant;
-use work::Work;
+use work::{Short, Work};
 
 #[repr(C)]
 #[derive(Clone, Copy, Debug, PartialEq)]
@@ -14,9 +14,12 @@ pub struct Report {
     stop: u8,
 }
 
+type PlainRun = unsafe extern "C" fn(unit: *mut u64, input: *const u8, length: usize, output: *mut u8, room: usize) -> Report;
+
 extern "C" {
     fn t1mmu_run(state: *mut u64, words: usize, input: *const u8, length: usize, output: *mut u8, room: usize) -> Report;
     fn plain_run(unit: *mut u64, input: *const u8, length: usize, output: *mut u8, room: usize) -> Report;
+    fn plain_run_unchecked(unit: *mut u64, input: *const u8, length: usize, output: *mut u8, room: usize) -> Report;
     fn plain_size() -> usize;
     fn plain_load(unit: *mut u64, words: *const u64);
     fn plain_store(unit: *const u64, words: *mut u64);
@@ -25,10 +28,11 @@ extern "C" {
 pub enum Contestant {
     Library(Vec<u64>),
     Rust(Box<plain::Unit>),
-    C(Vec<u64>),
+    /// with the soundness test or without, by its entry point
+    C(Vec<u64>, PlainRun),
 }
 
-const NAMES: [&str; 3] = ["library", "rust", "c"];
+const NAMES: [&str; 4] = ["library", "rust", "c", "c without the test"];
 
 impl Contestant {
     fn new(which: usize, words: &[u64]) -> Contestant {
@@ -39,7 +43,7 @@ impl Contestant {
                 // SAFETY: the unit has the size that the C side gives, and words has a state's 640.
                 let mut unit = vec![0; unsafe { plain_size() }.div_ceil(8)];
                 unsafe { plain_load(unit.as_mut_ptr(), words.as_ptr()) };
-                Contestant::C(unit)
+                Contestant::C(unit, if which == 2 { plain_run } else { plain_run_unchecked })
             }
         }
     }
@@ -51,7 +55,7 @@ impl Contestant {
                 t1mmu_run(s.as_mut_ptr(), s.len(), input.as_ptr(), input.len(), output.as_mut_ptr(), output.len())
             },
             Contestant::Rust(unit) => unit.run(input, output),
-            Contestant::C(u) => unsafe { plain_run(u.as_mut_ptr(), input.as_ptr(), input.len(), output.as_mut_ptr(), output.len()) },
+            Contestant::C(u, run) => unsafe { run(u.as_mut_ptr(), input.as_ptr(), input.len(), output.as_mut_ptr(), output.len()) },
         }
     }
 
@@ -59,7 +63,7 @@ impl Contestant {
         match self {
             Contestant::Library(s) => s.clone(),
             Contestant::Rust(unit) => unit.words(),
-            Contestant::C(u) => {
+            Contestant::C(u, _) => {
                 let mut words = vec![0; 640];
                 // SAFETY: words has a state's 640.
                 unsafe { plain_store(u.as_ptr(), words.as_mut_ptr()) };
@@ -92,42 +96,56 @@ fn pass(c: &mut Contestant, runs: &[Vec<u8>], output: &mut [u8]) -> usize {
     answered
 }
 
-fn room(runs: &[Vec<u8>]) -> Vec<u8> {
-    vec![0; 24 * runs.iter().map(|r| r.len() / 2 + 1).max().unwrap_or(0)]
+/// Room for every answer of each of the works.
+fn room(works: &[&Work]) -> Vec<u8> {
+    vec![0; 24 * works.iter().flat_map(|w| w.runs()).map(|r| r.len() / 2 + 1).max().unwrap_or(0)]
 }
 
-/// All three give the same bytes, reports and words, so that they are measured at the same work.
+/// All give the same bytes, reports and words, so that they are measured at the same work.
 fn agree(work: &Work) {
-    let runs = work.runs();
-    let mut all: Vec<Contestant> = (0..3).map(|i| Contestant::new(i, &work.words)).collect();
+    let mut all: Vec<Contestant> = (0..NAMES.len()).map(|i| Contestant::new(i, &work.words)).collect();
     for _ in 0..2 {
-        for input in &runs {
+        for input in work.runs() {
             let seen: Vec<(Report, Vec<u8>)> = all
                 .iter_mut()
                 .map(|c| {
-                    let mut output = room(&runs);
+                    let mut output = room(&[work]);
                     (c.run(input, &mut output), output)
                 })
                 .collect();
             assert!(seen[0].0.stop == 0, "{}: stop {}", work.name, seen[0].0.stop);
-            assert!(seen[0] == seen[1] && seen[0] == seen[2], "{}: the contestants' answers differ", work.name);
+            assert!(seen.iter().all(|s| *s == seen[0]), "{}: the contestants' answers differ", work.name);
         }
         let words: Vec<Vec<u64>> = all.iter().map(|c| c.words()).collect();
-        assert!(words[0] == words[1] && words[0] == words[2], "{}: the contestants' states differ", work.name);
+        assert!(words.iter().all(|w| *w == words[0]), "{}: the contestants' states differ", work.name);
     }
 }
 
-/// Nanoseconds a unit, the best of many rounds; the three take turns in each round.
-fn nanoseconds(work: &Work, rounds: usize) -> [f64; 3] {
-    let mut all: Vec<Contestant> = (0..3).map(|i| Contestant::new(i, &work.words)).collect();
-    let runs = work.runs();
-    let mut output = room(&runs);
-    let mut best = [f64::MAX; 3];
-    for round in 0..rounds {
-        for turn in 0..3 {
-            let i = (round + turn) % 3;
+/// A work, and the contestant at it by its place in `NAMES`.
+type Turn<'a> = (&'a Work, usize);
+
+/// What a unit of the work takes the contestant.
+struct Cost {
+    ns: f64,
+    count: Option<f64>,
+}
+
+fn measured<const N: usize>(turns: [Turn; N]) -> [Cost; N] {
+    let ns = nanoseconds(turns);
+    std::array::from_fn(|i| Cost { ns: ns[i], count: instructions(turns[i]) })
+}
+
+/// Nanoseconds a unit, the best of many rounds; each round has every turn.
+fn nanoseconds<const N: usize>(turns: [Turn; N]) -> [f64; N] {
+    let mut all = turns.map(|(work, which)| Contestant::new(which, &work.words));
+    let mut output = room(&turns.map(|(work, _)| work));
+    let mut best = [f64::MAX; N];
+    for round in 0..(4_000_000 / turns[0].0.units).clamp(60, 600) {
+        for turn in 0..N {
+            let i = (round + turn) % N;
+            let (work, runs) = (turns[i].0, turns[i].0.runs());
             let began = Instant::now();
-            std::hint::black_box(measured_pass(&mut all[i], &runs, &mut output));
+            std::hint::black_box(measured_pass(&mut all[i], runs, &mut output));
             best[i] = best[i].min(began.elapsed().as_nanos() as f64 / work.units as f64);
         }
     }
@@ -135,26 +153,26 @@ fn nanoseconds(work: &Work, rounds: usize) -> [f64; 3] {
 }
 
 /// Instructions a unit by callgrind; none where valgrind is not there.
-fn instructions(index: usize, which: usize, units: usize) -> Option<f64> {
+fn instructions((work, which): Turn) -> Option<f64> {
     let own = std::env::current_exe().ok()?;
     let out = Command::new("valgrind")
         .args(["--tool=callgrind", "--callgrind-out-file=/dev/null", "--toggle-collect=measured_pass"])
         .arg(own)
-        .args(["--count", &index.to_string(), &which.to_string()])
+        .args(["--count", &work.name, &which.to_string()])
         .output()
         .ok()?;
     let said = String::from_utf8_lossy(&out.stderr).into_owned();
     let line = said.lines().find(|l| l.contains("Collected :"))?.to_string();
     let total: f64 = line.split(':').nth(1)?.trim().parse().ok()?;
-    Some(total / units as f64)
+    Some(total / work.units as f64)
 }
 
 /// Where the library's instructions of a work go, by function.
-fn functions(index: usize) -> Option<String> {
+fn functions(work: &Work) -> Option<String> {
     let own = std::env::current_exe().ok()?;
     let file = own.with_file_name("callgrind.out");
     let asked = [format!("--callgrind-out-file={}", file.display()), "--toggle-collect=measured_pass".to_string()];
-    Command::new("valgrind").arg("--tool=callgrind").args(asked).arg(own).args(["--count", &index.to_string(), "0"]).output().ok()?;
+    Command::new("valgrind").arg("--tool=callgrind").args(asked).arg(own).args(["--count", &work.name, "0"]).output().ok()?;
     let out = Command::new("callgrind_annotate").arg(&file).output().ok()?;
     let text = String::from_utf8_lossy(&out.stdout).into_owned();
     let shares = text.lines().filter(|l| l.contains("???:")).take(3).filter_map(|l| {
@@ -165,70 +183,143 @@ fn functions(index: usize) -> Option<String> {
     Some(shares.collect::<Vec<_>>().join(", "))
 }
 
-fn counted(all: &[Work], index: usize, which: usize) {
-    let work = &all[index];
+/// What callgrind runs: a pass of one contestant at one work.
+fn counted((work, which): Turn) {
     let mut c = Contestant::new(which, &work.words);
-    let runs = work.runs();
-    let mut output = room(&runs);
-    std::hint::black_box(warm_pass(&mut c, &runs, &mut output));
-    std::hint::black_box(measured_pass(&mut c, &runs, &mut output));
+    let mut output = room(&[work]);
+    std::hint::black_box(warm_pass(&mut c, work.runs(), &mut output));
+    std::hint::black_box(measured_pass(&mut c, work.runs(), &mut output));
 }
 
 fn figure(n: Option<f64>) -> String {
     n.map_or("-".to_string(), |n| if n < 100.0 { format!("{n:.1}") } else { format!("{n:.0}") })
 }
 
-fn row(work: &Work, ns: [f64; 3], count: [Option<f64>; 3]) -> bool {
-    let met = ns[0] / ns[1] <= work.goal;
-    let ratio = count[0].zip(count[1]).map(|(l, r)| l / r);
+fn ratio(a: Option<f64>, b: Option<f64>) -> String {
+    a.zip(b).map_or("-".to_string(), |(a, b)| format!("{:.2}", a / b))
+}
+
+fn percent(part: Option<f64>, whole: Option<f64>) -> String {
+    part.zip(whole).map_or("-".to_string(), |(p, w)| format!("{:.0} %", 100.0 * p / w))
+}
+
+fn head(cells: &[&str]) {
+    println!("| {} |\n|{}", cells.join(" | "), "---|".repeat(cells.len()));
+}
+
+/// A row of the first table; whether its goal is met.
+fn row(work: &Work) -> bool {
+    agree(work);
+    let [library, rust, c] = measured([0, 1, 2].map(|which| (work, which)));
+    let met = library.ns / rust.ns <= work.goal;
     println!(
         "| {} | {} | {} | {} | {:.2} | {:.2} | {} | {} | {} | {} | {} {} |",
         work.name,
-        figure(Some(ns[0])),
-        figure(Some(ns[1])),
-        figure(Some(ns[2])),
-        ns[0] / ns[1],
-        ns[0] / ns[2],
-        figure(count[0]),
-        figure(count[1]),
-        figure(count[2]),
-        ratio.map_or("-".to_string(), |r| format!("{r:.2}")),
+        figure(Some(library.ns)),
+        figure(Some(rust.ns)),
+        figure(Some(c.ns)),
+        library.ns / rust.ns,
+        library.ns / c.ns,
+        figure(library.count),
+        figure(rust.count),
+        figure(c.count),
+        ratio(library.count, rust.count),
         work.goal,
         if met { "met" } else { "MISSED" }
     );
     met
 }
 
+fn first_table(all: &[Work]) {
+    head(&[
+        "per command (or pair, or run)",
+        "library ns",
+        "Rust ns",
+        "C ns",
+        "library/Rust",
+        "library/C",
+        "library instr",
+        "Rust instr",
+        "C instr",
+        "library/Rust instr",
+        "goal, library/Rust ns",
+    ]);
+    let missed: Vec<&Work> = all.iter().filter(|w| !row(w)).collect();
+    println!("\n{} goals missed of {}; where the library's instructions go:\n", missed.len(), all.len());
+    for work in missed {
+        println!("- {}: {}", work.name, functions(work).unwrap_or("no callgrind".to_string()));
+    }
+}
+
+/// A row of the second table: hits in runs of `length`; a run without a command, `empty`, pays for number 1 alone.
+fn short_row(empty: &Work, length: usize, work: &Work) {
+    agree(work);
+    let [library, c, test] = measured([(work, 0), (work, 3), (empty, 0)]);
+    let run = |command: f64| command * length as f64;
+    println!(
+        "| {} | {} | {} | {:.2} | {} | {} | {} | {} | {} |",
+        work.name,
+        figure(Some(library.ns)),
+        figure(Some(c.ns)),
+        library.ns / c.ns,
+        figure(library.count),
+        figure(c.count),
+        ratio(library.count, c.count),
+        percent(test.count, library.count.map(run)),
+        percent(Some(test.ns), Some(run(library.ns))),
+    );
+}
+
+/// What a soundness test at each run costs where runs are short: the C unit here does without.
+fn second_table(all: &[Short]) {
+    head(&[
+        "per command, random slot of a full side",
+        "library ns",
+        "C without the test ns",
+        "library/C",
+        "library instr",
+        "C instr",
+        "library/C instr",
+        "number 1's share of a run, instr",
+        "number 1's share of a run, ns",
+    ]);
+    for short in all {
+        agree(&short.empty);
+        short.hits.iter().for_each(|(length, work)| short_row(&short.empty, *length, work));
+    }
+}
+
+/// The works of that name, or of that number in the list.
+fn asked(works: Vec<Work>, row: &str) -> Vec<Work> {
+    works.into_iter().enumerate().filter(|(i, w)| w.name == row || i.to_string() == row).map(|(_, w)| w).collect()
+}
+
+fn list() {
+    work::all().iter().enumerate().for_each(|(i, w)| println!("{i} {}", w.name));
+    let names: Vec<String> = NAMES.iter().enumerate().map(|(i, n)| format!("{i} {n}")).collect();
+    println!("contestants: {}", names.join(", "));
+}
+
+fn usage() -> ! {
+    eprintln!("bench [--only ROW | --runs | --list | --count ROW CONTESTANT], a row by its number or name, a contestant by its number");
+    exit(2)
+}
+
 fn main() {
-    let all = work::all();
     let args: Vec<String> = std::env::args().skip(1).collect();
-    let number = |i: usize| args.get(i).and_then(|a| a.parse::<usize>().ok());
-    if args.first().is_some_and(|a| a == "--count") {
-        let (Some(index), Some(which)) = (number(1), number(2)) else { exit(2) };
-        return counted(&all, index, which);
-    }
-    if args.first().is_some_and(|a| a == "--list") {
-        all.iter().enumerate().for_each(|(i, w)| println!("{i} {}", w.name));
-        return println!("contestants: 0 {}, 1 {}, 2 {}", NAMES[0], NAMES[1], NAMES[2]);
-    }
-    let heads = ["per command (or pair, or run)", "library ns", "Rust ns", "C ns", "library/Rust", "library/C"];
-    let more = ["library instr", "Rust instr", "C instr", "library/Rust instr", "goal, library/Rust ns"];
-    println!("| {} | {} |", heads.join(" | "), more.join(" | "));
-    println!("|---|---|---|---|---|---|---|---|---|---|---|");
-    let (mut missed, mut rows) = (Vec::new(), 0);
-    let only = if args.first().is_some_and(|a| a == "--only") { number(1) } else { None };
-    for (index, work) in all.iter().enumerate().filter(|(i, _)| only.is_none() || only == Some(*i)) {
-        agree(work);
-        rows += 1;
-        let rounds = (4_000_000 / work.units).clamp(60, 600);
-        let ns = nanoseconds(work, rounds);
-        let count = [0, 1, 2].map(|which| instructions(index, which, work.units));
-        if !row(work, ns, count) {
-            missed.push(index);
+    match args.iter().map(String::as_str).collect::<Vec<_>>()[..] {
+        [] => {
+            first_table(&work::all());
+            println!();
+            second_table(&work::short());
         }
-    }
-    println!("\n{} goals missed of {rows}; where the library's instructions go:\n", missed.len());
-    for index in missed {
-        println!("- {}: {}", all[index].name, functions(index).unwrap_or("no callgrind".to_string()));
+        ["--only", row] => first_table(&asked(work::all(), row)),
+        ["--runs"] => second_table(&work::short()),
+        ["--list"] => list(),
+        ["--count", row, which] => match (asked(work::every(), row).first(), which.parse()) {
+            (Some(work), Ok(which)) => counted((work, which)),
+            _ => usage(),
+        },
+        _ => usage(),
     }
 }

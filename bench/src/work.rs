@@ -1,7 +1,13 @@
 //! What is measured: a start state, and the inputs of one pass over it.
 
+use std::cell::LazyCell;
+
 const TAG: u64 = 0x1000_0000;
 const CONTEXT: u64 = 5;
+/// The owner of partition 0's real pages.
+const REAL: u64 = 1 << 13;
+/// Where the upper half of the addresses begins.
+const UPPER: u64 = 0xFFFF_8000_0000_0000;
 /// Commands of a pass, but for the longest runs.
 const PASS: usize = 4096;
 
@@ -10,15 +16,17 @@ pub struct Work {
     pub words: Vec<u64>,
     /// what the figures are divided by
     pub units: usize,
-    /// the library's share of the plain Rust unit's time that is to be reached
+    /// the library's share of the plain Rust unit's time that is to be reached; infinite where none is set
     pub goal: f64,
-    inputs: Box<dyn Fn() -> Vec<Vec<u8>>>,
+    inputs: Inputs,
 }
 
+type Inputs = LazyCell<Vec<Vec<u8>>, Box<dyn FnOnce() -> Vec<Vec<u8>>>>;
+
 impl Work {
-    /// The inputs of one pass; made on demand, since callgrind's runs want one work's alone.
-    pub fn runs(&self) -> Vec<Vec<u8>> {
-        (self.inputs)()
+    /// The inputs of one pass; made on demand, since callgrind's runs want one work's alone, and once, so that contestants share them.
+    pub fn runs(&self) -> &[Vec<u8>] {
+        &self.inputs
     }
 }
 
@@ -43,10 +51,16 @@ pub enum Population {
     FourSizes,
     /// one guest, a 256 MB page and 8 KB pages within 256 MB: most pairs share a bucket
     Worst,
+    /// any partition, context below 100 and 8 KB page of the lower half; that no two are the same shows in the run, which is not stopped
+    RandomPages,
+    /// one guest, 8 KB pages side by side, every other one real
+    RealAndVirtual,
+    /// one guest, 8 KB pages of the lower and the upper half in turn
+    BothHalves,
 }
 
 /// Owner, page and word of the q-th entry.
-fn entry(population: Population, q: u64) -> [u64; 3] {
+fn entry(population: Population, q: u64, r: &mut Random) -> [u64; 3] {
     let word = 1 << 63 | q << 29 | 0x440;
     let virtual_of = |partition: u64| partition << 14 | CONTEXT;
     match population {
@@ -55,11 +69,19 @@ fn entry(population: Population, q: u64) -> [u64; 3] {
         Population::FourSizes => [virtual_of(0), (q + 1) << 28, word | [0, 1, 3, 5][q as usize % 4]],
         Population::Worst if q == 0 => [virtual_of(0), 0x8000_0000, word | 5],
         Population::Worst => [virtual_of(0), TAG + q * 0x2000, word],
+        Population::RandomPages => [(r.below(8) << 14 | r.below(100)) as u64, (r.below(1 << 34) << 13) as u64, word],
+        Population::RealAndVirtual => [[virtual_of(0), REAL][q as usize % 2], TAG + q * 0x2000, word],
+        Population::BothHalves => [virtual_of(0), [TAG, UPPER][q as usize % 2] + q * 0x2000, word],
     }
 }
 
-/// Both sides full, in the same shuffled order, used bits set; strand s has partition 2 s where there are eight.
+/// Both sides full.
 fn state(population: Population) -> Vec<u64> {
+    filled(population, 64)
+}
+
+/// As many entries on both sides, in the same shuffled order, used bits set; strand s has partition 2 s where there are eight.
+fn filled(population: Population, entries: usize) -> Vec<u64> {
     let mut r = Random(88172645463325252);
     let mut words = vec![0; 640];
     for strand in 0..4 {
@@ -74,9 +96,9 @@ fn state(population: Population) -> Vec<u64> {
     }
     let mut places: Vec<usize> = (0..64).collect();
     (1..64).rev().for_each(|i| places.swap(i, r.below(i + 1)));
-    for side in 0..2 {
-        for (q, place) in places.iter().enumerate() {
-            let [owner, page, word] = entry(population, q as u64);
+    for (q, place) in places[..entries].iter().enumerate() {
+        let [owner, page, word] = entry(population, q as u64, &mut r);
+        for side in 0..2 {
             words[128 + 256 * side + 4 * place..][..4].copy_from_slice(&[owner, page, word, 2]);
         }
     }
@@ -105,7 +127,7 @@ fn hit(words: &[u64], r: &mut Random) -> Vec<u8> {
 /// One long run; the command, or pair, of each number.
 fn long(name: &str, goal: f64, words: &[u64], each: impl Fn(usize) -> Vec<u8> + 'static) -> Work {
     let inputs = Box::new(move || vec![(0..PASS).flat_map(&each).collect()]);
-    Work { name: name.to_string(), words: words.to_vec(), units: PASS, goal, inputs }
+    Work { name: name.to_string(), words: words.to_vec(), units: PASS, goal, inputs: LazyCell::new(inputs) }
 }
 
 /// One long run of hits at random slots.
@@ -121,12 +143,13 @@ fn hits(words: Vec<u64>, length: usize, goal: f64) -> Work {
         let mut r = Random(1234567);
         (0..number).map(|_| (0..length).flat_map(|_| hit(&of, &mut r)).collect()).collect()
     });
-    Work { name: format!("hits in runs of {length}"), words, units: number * length, goal, inputs }
+    Work { name: format!("hits in runs of {length}"), words, units: number * length, goal, inputs: LazyCell::new(inputs) }
 }
 
-fn soundness(name: &str, goal: f64, population: Population) -> Work {
+/// Runs without a command: they pay for the soundness test alone.
+fn soundness(name: &str, goal: f64, words: Vec<u64>) -> Work {
     let inputs = Box::new(|| vec![Vec::new(); 256]);
-    Work { name: format!("soundness of two full sides, {name}"), words: state(population), units: 256, goal, inputs }
+    Work { name: format!("soundness of two {name}"), words, units: 256, goal, inputs: LazyCell::new(inputs) }
 }
 
 fn lookups() -> Vec<Work> {
@@ -194,14 +217,53 @@ fn growing(length: usize) -> Work {
     hits(state(Population::OneGuest), length, if length == 1 { 1.0 } else { 0.7 })
 }
 
+fn states() -> Vec<Work> {
+    vec![
+        soundness("full sides, one guest", 0.06, state(Population::OneGuest)),
+        soundness("full sides, eight partitions", 0.06, state(Population::EightPartitions)),
+        soundness("full sides, four page sizes", 0.06, state(Population::FourSizes)),
+        soundness("full sides, worst population", 0.25, state(Population::Worst)),
+        soundness("sides, 24 entries each", 0.25, filled(Population::OneGuest, 24)),
+        soundness("full sides, random pages", 0.25, state(Population::RandomPages)),
+        soundness("full sides, real and virtual", 0.25, state(Population::RealAndVirtual)),
+        soundness("full sides, both halves", 0.25, state(Population::BothHalves)),
+        // as after a reset
+        soundness("sides, empty", 0.25, hyperprivileged(&[0; 640])),
+    ]
+}
+
+/// The first table's works.
 pub fn all() -> Vec<Work> {
     let mut all = lookups();
     all.extend(changes());
     all.extend(small());
     all.extend([1, 10, 100, 1_000, 10_000, 100_000].map(growing));
-    all.push(soundness("one guest", 0.06, Population::OneGuest));
-    all.push(soundness("eight partitions", 0.06, Population::EightPartitions));
-    all.push(soundness("four page sizes", 0.06, Population::FourSizes));
-    all.push(soundness("worst population", 0.25, Population::Worst));
+    all.extend(states());
     all
+}
+
+/// Short runs on one state.
+pub struct Short {
+    /// runs without a command
+    pub empty: Work,
+    /// hits at random slots, by commands a run
+    pub hits: [(usize, Work); 3],
+}
+
+/// The second table's works.
+pub fn short() -> Vec<Short> {
+    let on = |name: &str, population| Short {
+        empty: soundness(&format!("full sides, {name}"), f64::INFINITY, state(population)),
+        hits: [1, 4, 16].map(|length| {
+            let of = hits(state(population), length, f64::INFINITY);
+            (length, Work { name: format!("{}, {name}", of.name), ..of })
+        }),
+    };
+    vec![on("one guest", Population::OneGuest), on("eight partitions", Population::EightPartitions)]
+}
+
+/// Both tables' works.
+pub fn every() -> Vec<Work> {
+    let second = short().into_iter().flat_map(|s| s.hits.map(|(_, work)| work).into_iter().chain([s.empty]));
+    all().into_iter().chain(second).collect()
 }

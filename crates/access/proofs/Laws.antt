@@ -3,11 +3,9 @@
 use Prim.Native.Nat.{ℕ}
 use mathlib.Core.Path.{_≡_, _∙_}
 use mathlib.Core.List.{List}
-use lib.Dec.{eqb}
 use lib.ListN.{length, length-set}
-use Rattle.laws.proofs.Bools.{by-test}
 use Rattle.machine.specs.Registers.{registerWords, withRegister}
-use Rattle.machine.specs.State.{counts, State, stateOf, encode, sideOf, withRegisters}
+use Rattle.machine.specs.State.{counts, State, stateOf, encode, withRegisters}
 use Rattle.machine.specs.Access.{trapRegisters}
 use Rattle.machine.specs.declared.Access.{Access}
 use Rattle.machine.specs.declared.Tag.{Tag}
@@ -18,10 +16,6 @@ use Rattle.state.proofs.Parts.{Sized, sized-with-registers, sized-back}
 -- words that hold a state of the right size give it back
 pub left-back : {u : State} {left : List ℕ} → Sized counts u → left ≡ encode u → stateOf counts left ≡ u
 left-back {u} z e = rw e (sized-back counts u z)
-
--- either side has 64 slots
-pub side-slots : (u : State) → Sized counts u → (side : ℕ) → length (sideOf u side) ≡ 64
-side-slots u z side = by-test (eqb side 0) (λ e. rw e (z .1)) (λ e. rw e (z .2))
 
 module _ (u : State) (z : Sized counts u) (file : List ℕ) (l : length file ≡ registerWords) {left : List ℕ} (e : left ≡ encode (withRegisters u file)) where
   pub registers-back : stateOf counts left ≡ withRegisters u file

@@ -8,7 +8,7 @@ ghost use Rattle.laws.specs.declared.Found.the-variants.{At, Nothing};
 ghost use Rattle.machine.specs.Words.{bits};
 ghost use Rattle.machine.specs.Registers.{withRegister, translates, registersSound};
 ghost use Rattle.machine.specs.Questions.{kindSide};
-ghost use Rattle.machine.specs.State.{counts, stateWords, stateOf, encode, withRegisters};
+ghost use Rattle.machine.specs.State.{counts, stateWords, stateOf, encode, withRegisters, sound};
 ghost use Rattle.machine.specs.Access.{addressUsed, exception, trapTag, bypassTo, lookupKey, prepare, missTrap, faultType, judge, trapFault, trapRegisters, trapTo, settleFound, settle, accessTo};
 ghost use Rattle.machine.specs.declared.Prepared.the-variants.{Lookup};
 ghost use Rattle.machine.specs.declared.Tag.the-variants.{Kept};
@@ -324,13 +324,12 @@ fn settle_hit(state: &mut [u64], a: Access, i: usize) -> Answer
 }
 
 // Step 5 and what comes of it.
-fn look_up(state: &mut [u64], a: Access, key: Key) -> Answer
-    requires { ⌜ (length (now state) ≡ stateWords counts) × (a .strand < 4)
-        × (registersSound (stateOf counts (now state) .registers) ≡ true) ⌝ }
+fn look_up(state: &mut [u64], hints: &mut [u8; 256], a: Access, key: Key) -> Answer
+    requires { ⌜ (length (now state) ≡ stateWords counts) × (a .strand < 4) × (sound counts (stateOf counts (now state)) ≡ true) ⌝ }
     ensures words { λ r. ⌜ now (state .exit) ≡ encode (settle (stateOf counts (now (state .entry))) a (Lookup key) .state) ⌝ }
     ensures answer { λ r. ⌜ r ≡ settle (stateOf counts (now (state .entry))) a (Lookup key) .answer ⌝ }
 {
-    let found = state::search_side(state, operands::access_side(a.kind), key);
+    let found = state::search_hinted(state, hints, operands::access_side(a.kind), key);
     match found {
         Found::At(i) => settle_hit(state, a, i),
         Found::Nothing => settle_miss(state, a),
@@ -338,9 +337,9 @@ fn look_up(state: &mut [u64], a: Access, key: Key) -> Answer
 }
 
 // One access that passed its questions.
-pub fn access_to(state: &mut [u64], a: Access) -> Answer
+pub fn access_to(state: &mut [u64], hints: &mut [u8; 256], a: Access) -> Answer
     requires { ⌜ (length (now state) ≡ stateWords counts) × (a .strand < 4) × (a .size < 4)
-        × (registersSound (stateOf counts (now state) .registers) ≡ true) ⌝ }
+        × (sound counts (stateOf counts (now state)) ≡ true) ⌝ }
     ensures words { λ r. ⌜ now (state .exit) ≡ encode (accessTo (stateOf counts (now (state .entry))) a .state) ⌝ }
     ensures answer { λ r. ⌜ r ≡ accessTo (stateOf counts (now (state .entry))) a .answer ⌝ }
 {
@@ -348,6 +347,6 @@ pub fn access_to(state: &mut [u64], a: Access) -> Answer
     match prepared {
         Prepared::Stopped(trap, tag) => take_trap(state, a, trap, tag),
         Prepared::Bypass(translation) => Answer::Physical(translation),
-        Prepared::Lookup(key) => look_up(state, a, key),
+        Prepared::Lookup(key) => look_up(state, hints, a, key),
     }
 }

@@ -90,7 +90,9 @@ fn print_lookup(slots: &[u64], context: u64, address: u64) {
 fn print_side(slots: &mut [u64])
     requires { ⌜ length (now slots) % 4 ≡ 0 ⌝ }
 {
-    let sound = tlb_sound::side_sound(slots);
+    let mut buckets = [0; 1024];
+    let seen: &mut [u8] = &mut buckets;
+    let sound = tlb_sound::side_sound(slots, seen, 1);
     io::write_all(1, b"  ");
     io::print_decimal(1, tlb_update::remove(slots, Removal::Everything));
     io::write_all(1, b" live, ");

@@ -1,6 +1,6 @@
 -- Laws of `find` and of counts over elements that are known: what is found, what stands once, and tests that agree on every element.
 -- Over any type and any test. Assumes nothing.
-use mathlib.Core.Path.{_≡_, refl, ap}
+use mathlib.Core.Path.{_≡_, refl, ap, _∙_}
 use mathlib.Core.Bool.{Bool, true, false, not, _&&_}
 use mathlib.Core.List.{List, [], _∷_}
 use mathlib.Core.Option.{Option, none, some}
@@ -9,8 +9,9 @@ use native.Mathlib.Omega.{arith}
 use lib.Dec.{eqb}
 use lib.ListN.{length, getD}
 use borrow.Author.Tests.{eq-eqb, ne-eqb}
-use Rattle.laws.specs.Tests.{tick, count, anyOf, allOf}
+use Rattle.laws.specs.Tests.{tick, count, anyOf, allOf, firstFrom, first}
 use Rattle.laws.specs.Passing.{passing, howMany, nonePasses, without, find}
+use Rattle.laws.specs.declared.Found.the-variants.{At}
 use Rattle.laws.proofs.Bools.{by-test, clash, and-both, and-left, and-right}
 use Rattle.laws.proofs.Counts.{count-at, count-le, count-split, count-any, none-count}
 
@@ -70,6 +71,18 @@ module _ {A : Type 0} where
       by-test (p y)
       (λ t. absurd (omega (arith, ap tick t, stands-count p l x e s)))
       (λ t. rw t (find-only p l x e s (omega arith)))
+
+  -- nor does a search for the first
+  pub first-only : (p : A → Bool) (l : List A) (i : ℕ) (d : A) → count p l ≤ 1 → i < length l → p (getD l i d) ≡ true → first p l ≡ At i
+  unfolding firstFrom count
+  first-only p l i d one h e = from l i 0 one h e ∙ ap At (omega arith)
+    where
+      from : (l : List A) (i k : ℕ) → count p l ≤ 1 → i < length l → p (getD l i d) ≡ true → firstFrom p k l ≡ At (k + i)
+      from [] i k one h e = absurd (omega arith)
+      from (x ∷ l) zero k one h e = rw e (ap At (omega arith))
+      from (x ∷ l) (suc i) k one h e = by-test (p x)
+          (λ t. absurd (omega (arith, ap tick t, count-at p l i d (omega arith) e)))
+          (λ t. rw t (from l i (suc k) (omega (arith, ap tick t)) (omega arith) e ∙ ap At (omega arith)))
 
   -- without it that one is gone
   pub removed-once : (p q : A → Bool) (l : List A) (x : A) → q x ≡ true → Stands x l → count q l ≤ 1

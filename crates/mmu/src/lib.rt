@@ -191,6 +191,7 @@ fn act_invalidate(state: &mut [u64], side: u8) -> Answer
 
 fn act_access(
     state: &mut [u64],
+    hints: &mut [u8; 256],
     strand: u8,
     kind: u8,
     selector: u8,
@@ -204,6 +205,7 @@ fn act_access(
     let used = access::used_address(state, strand, address);
     access::access_to(
         state,
+        hints,
         Access {
             strand: strand,
             kind: kind,
@@ -231,7 +233,7 @@ fn act_pointers(state: &[u64], strand: u8, side: u8) -> Answer
     )
 }
 
-fn act_command(state: &mut [u64], command: Command) -> Answer
+fn act_command(state: &mut [u64], hints: &mut [u8; 256], command: Command) -> Answer
     requires { ⌜ Ready (now state) command ⌝ }
     ensures words { λ r. ⌜ now (state .exit) ≡ encode (act (stateOf counts (now (state .entry))) command .state) ⌝ }
     ensures answer { λ r. ⌜ r ≡ act (stateOf counts (now (state .entry))) command .answer ⌝ }
@@ -268,14 +270,14 @@ fn act_command(state: &mut [u64], command: Command) -> Answer
             selector,
             size,
             address,
-        } => act_access(state, strand, kind, selector, size, address),
+        } => act_access(state, hints, strand, kind, selector, size, address),
         Command::Read { strand, register } => act_read(state, strand, register),
         Command::Pointers { strand, side } => act_pointers(state, strand, side),
     }
 }
 
 // One command: refused by the first question that it fails, or done.
-pub fn execute(state: &mut [u64], command: Command) -> Answer
+pub fn execute(state: &mut [u64], hints: &mut [u8; 256], command: Command) -> Answer
     requires { ⌜ (length (now state) ≡ stateWords counts) × (sound counts (stateOf counts (now state)) ≡ true) ⌝ }
     ensures words { λ r. ⌜ now (state .exit) ≡ encode (step (stateOf counts (now (state .entry))) command .state) ⌝ }
     ensures answer { λ r. ⌜ r ≡ step (stateOf counts (now (state .entry))) command .answer ⌝ }
@@ -283,5 +285,5 @@ pub fn execute(state: &mut [u64], command: Command) -> Answer
     if let Verdict::Refused(refusal) = questions::question(state, command) {
         return Answer::Refused(refusal);
     }
-    act_command(state, command)
+    act_command(state, hints, command)
 }

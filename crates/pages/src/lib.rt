@@ -1,5 +1,6 @@
 // Addresses and pages: document 01, "Addresses and entry words".
 ghost use mathlib.Core.Path.{_≡_};
+ghost use Prim.Native.Nat.{_-_};
 ghost use Rattle.machine.specs.Pages.{inRange, listed, pageShift, pageSize, pageStart, pageOffset, untranslated, bypassed};
 use machine::PhysicalAddress;
 use machine::RealAddress;
@@ -58,16 +59,28 @@ pub fn page_size(code: u64) -> u64
     1 << page_shift(code)
 }
 
+// The bits of an address below a page start, by size code.
+pub fn page_mask(code: u64) -> u64
+    ensures { λ r. ⌜ r ≡ pageSize code - 1 ⌝ }
+{
+    match code {
+        0 => 0x1FFF,
+        1 => 0xFFFF,
+        3 => 0x3F_FFFF,
+        5 => 0xFFF_FFFF,
+        _ => 0,
+    }
+}
+
 // The address rounded down. The last page ends at 2^64, so a page's end is never computed.
 pub fn page_start(code: u64, address: u64) -> u64
     ensures { λ r. ⌜ r ≡ pageStart code address ⌝ }
 {
-    let shift = page_shift(code);
-    address >> shift << shift
+    address - page_offset(code, address)
 }
 
 pub fn page_offset(code: u64, address: u64) -> u64
     ensures { λ r. ⌜ r ≡ pageOffset code address ⌝ }
 {
-    address - page_start(code, address)
+    address & page_mask(code)
 }

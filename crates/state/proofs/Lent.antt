@@ -12,7 +12,13 @@ use Rattle.machine.specs.Sound.{sideSound}
 use Rattle.machine.specs.Registers.{registersSound}
 use Rattle.machine.specs.State.{counts, slotCount, stateWords, stateOf, encode, sideOf, withSide, wordsSound}
 use Rattle.machine.specs.declared.Slot.{Slot}
-use Rattle.state.proofs.Parts.{side-length, side-read, side-stored, sound-parts}
+use Rattle.state.proofs.Parts.{sized-words, side-length, side-read, side-stored, sound-parts}
+
+-- either side has 64 slots
+pub side-slots : (words : List ℕ) → length words ≡ stateWords counts → (side : ℕ) → length (sideOf (stateOf counts words) side) ≡ 64
+side-slots words l side =
+    let z = sized-words counts words l in
+    by-test (eqb side 0) (λ e. rw e (z .1)) (λ e. rw e (z .2))
 
 abbrev part : List ℕ → ℕ → List ℕ
 part words a = take (a + 256 - a) (drop a words)

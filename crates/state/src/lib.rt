@@ -7,7 +7,7 @@ ghost use Rattle.laws.specs.Tests.{count};
 ghost use Rattle.machine.specs.Slots.{noSlot, search, setUsed};
 ghost use Rattle.machine.specs.Insertion.{removed, removes, candidate, inserted, placed, hasSlot};
 ghost use Rattle.machine.specs.Registers.{register, withRegister};
-ghost use Rattle.machine.specs.State.{counts, stateWords, stateOf, encode, sideOf, withSide, withRegisters, wordsSound, resetOf, resetNumber};
+ghost use Rattle.machine.specs.State.{counts, stateWords, stateOf, encode, sideOf, withSide, withRegisters, sound, wordsSound, resetOf, resetNumber};
 ghost use Rattle.state.specs.Reset.{resetWord};
 use laws::Found;
 use machine::Key;
@@ -66,6 +66,33 @@ pub fn slot_of(state: &[u64], side: u8, i: usize) -> Slot
     tlb::slot_at(&state[start..end], i)
 }
 
+// Where a key's hint is kept: the owner among the bits of the page's number, and a multiplier that keeps near and far pages of one guest apart,
+// and the same pages of many.
+fn hint_place(side: u8, key: Key) -> usize
+    ensures { λ r. ⌜ r < 256 ⌝ }
+{
+    let mixed = (tlb::key_address(key) >> 13 ^ tlb::key_owner(key) << 13) % 0x1_0000_0000;
+    ((mixed * 0xB394_E127 >> 24 ^ (side as u64) << 7) % 256) as usize
+}
+
+// The same as `search_side`, on a sound state. A hint is the slot of an earlier answer, and is not believed: the slot is asked, and where it
+// answers no other does.
+pub fn search_hinted(state: &[u64], hints: &mut [u8; 256], side: u8, key: Key) -> Found
+    requires { ⌜ (length (now state) ≡ stateWords counts) × (side < 2) × (sound counts (stateOf counts (now state)) ≡ true) ⌝ }
+    ensures { λ r. ⌜ r ≡ search key (sideOf (stateOf counts (now (state .entry))) side) ⌝ }
+{
+    let at = hint_place(side, key);
+    let hint = (hints[at] % 64) as usize;
+    if tlb_update::answers(slot_of(state, side, hint), key) {
+        return Found::At(hint);
+    }
+    let found = search_side(state, side, key);
+    if let Found::At(i) = found {
+        hints[at] = (i % 64) as u8;
+    }
+    found
+}
+
 // Sets the used bit of slot i of a side.
 pub fn mark_used(state: &mut [u64], side: u8, i: usize)
     requires { ⌜ (length (now state) ≡ stateWords counts) × (side < 2) × (i < 64) ⌝ }
@@ -121,10 +148,13 @@ pub fn state_sound(state: &[u64]) -> bool
     if !registers::file_sound(&state[0..128]) {
         return false;
     }
-    if !tlb_sound::side_sound(&state[128..384]) {
+    let mut buckets = [0; 1024];
+    let seen: &mut [u8] = &mut buckets;
+    if !tlb_sound::side_sound(&state[128..384], seen, 1) {
         return false;
     }
-    tlb_sound::side_sound(&state[384..640])
+    // another mark: what side 0 left there does not count
+    tlb_sound::side_sound(&state[384..640], seen, 2)
 }
 
 fn reset_word(i: usize) -> u64

@@ -18,6 +18,8 @@ pub fn run(state: &mut [u64], input: &[u8], output: &mut [u8]) -> Run
             stop: 1,
         };
     }
+    // the slots of earlier hits; an answer does not depend on what it holds
+    let mut hints = [0; 256];
     let mut at = 0;
     let mut answered = 0;
     while at < input.len() {
@@ -37,7 +39,7 @@ pub fn run(state: &mut [u64], input: &[u8], output: &mut [u8]) -> Run
                 stop: wire::stop_number(decoded),
             };
         };
-        let answer = mmu::execute(state, command);
+        let answer = mmu::execute(state, &mut hints, command);
         wire::put_answer(output, answered * 24, answer);
         at += width;
         answered += 1;

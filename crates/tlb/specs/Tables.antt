@@ -2,11 +2,13 @@
 -- or `overlaps_none`.
 -- Assumes nothing.
 use Prim.Native.Nat.{ℕ, _*_, _/_, _^_, max}
+use mathlib.Core.Path.{_≡_}
 use mathlib.Core.List.{List}
 use mathlib.Core.Bool.{Bool, _&&_}
 use lib.Dec.{eqb}
-use lib.ListN.{getD, set, replicate}
-use Rattle.machine.specs.Slots.{isLive, sizeCode}
+use lib.ListN.{getD, set, replicate, drop}
+use Rattle.laws.specs.Tests.{firstFrom}
+use Rattle.machine.specs.Slots.{isLive, sizeCode, slotsOf}
 use Rattle.machine.specs.declared.Slot.{Slot}
 
 -- f of the page shift at a listed size code, and another number at the others
@@ -24,3 +26,8 @@ spansOf size = byCode size (λ k. max size (2 ^ k))
 -- a live slot of the owner whose page has the start that a table gives for its size code
 unfoldable pub answersBy : ℕ → List ℕ → Slot → Bool
 answersBy owner start x = isLive x && (eqb (x .owner) owner && eqb (getD start (sizeCode x) 0) (x .page))
+
+-- a search of the slots from i on finds what one from j on finds
+abbrev pub Skips : ℕ → List ℕ → List ℕ → ℕ → ℕ → Type 0
+Skips owner start l i j =
+    firstFrom (answersBy owner start) i (drop i (slotsOf l)) ≡ firstFrom (answersBy owner start) j (drop j (slotsOf l))

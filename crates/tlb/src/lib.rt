@@ -7,7 +7,7 @@ ghost use Rattle.laws.specs.Tests.{anyOf, first, firstFrom};
 ghost use Rattle.machine.specs.Pages.{pageSize};
 ghost use Rattle.machine.specs.Slots.{slotsOf, wordsOf, slotOf, withSlot, onSlot, ownerWord, keyOwner, keyAddress, isLive, pageMatch, search, withUsed, clearUsed, sizeCode};
 ghost use Rattle.machine.specs.Insertion.{overlaps};
-ghost use Rattle.tlb.specs.Tables.{startsOf, spansOf, answersBy};
+ghost use Rattle.tlb.specs.Tables.{startsOf, spansOf, answersBy, Skips};
 use laws::Found;
 use machine::Key;
 use machine::PageMatch;
@@ -141,28 +141,60 @@ fn search_rest(slots: &[u64], from: usize, owner: u64, start: &[u64; 16]) -> Fou
     Found::Nothing
 }
 
-// The lowest slot that answers by the starts. Most do not: four a turn.
-fn search_starts(slots: &[u64], owner: u64, start: &[u64; 16]) -> Found
-    ensures { λ r. ⌜ r ≡ first (answersBy owner (now (start .entry))) (slotsOf (now (slots .entry))) ⌝ }
+// How many of four slots, from the one given on, come before the first that answers.
+fn skip_four(slots: &[u64], from: usize, owner: u64, start: &[u64; 16]) -> usize
+    requires { ⌜ from * 4 + 16 ≤ length (now slots) ⌝ }
+    ensures { λ r. ⌜ (r ≤ 4) × Skips owner (now (start .entry)) (now (slots .entry)) from (from + r) ⌝ }
+{
+    if answers_at(slots, from, owner, start) {
+        return 0;
+    }
+    if answers_at(slots, from + 1, owner, start) {
+        return 1;
+    }
+    if answers_at(slots, from + 2, owner, start) {
+        return 2;
+    }
+    if answers_at(slots, from + 3, owner, start) {
+        return 3;
+    }
+    4
+}
+
+// A slot up to which none answers. Most do not: sixteen a turn.
+fn skip(slots: &[u64], owner: u64, start: &[u64; 16]) -> usize
+    ensures { λ r. ⌜ Skips owner (now (start .entry)) (now (slots .entry)) 0 r ⌝ }
 {
     let n = slots.len() / 4;
     let mut i = 0;
-    while i + 3 < n {
-        if answers_at(slots, i, owner, start) {
-            return Found::At(i);
+    while i + 15 < n {
+        let a = skip_four(slots, i, owner, start);
+        if a != 4 {
+            return i + a;
         }
-        if answers_at(slots, i + 1, owner, start) {
-            return Found::At(i + 1);
+        let b = skip_four(slots, i + 4, owner, start);
+        if b != 4 {
+            return i + 4 + b;
         }
-        if answers_at(slots, i + 2, owner, start) {
-            return Found::At(i + 2);
+        let c = skip_four(slots, i + 8, owner, start);
+        if c != 4 {
+            return i + 8 + c;
         }
-        if answers_at(slots, i + 3, owner, start) {
-            return Found::At(i + 3);
+        let d = skip_four(slots, i + 12, owner, start);
+        if d != 4 {
+            return i + 12 + d;
         }
-        i += 4;
+        i += 16;
     }
-    search_rest(slots, i, owner, start)
+    i
+}
+
+// The lowest slot that answers by the starts.
+fn search_starts(slots: &[u64], owner: u64, start: &[u64; 16]) -> Found
+    ensures { λ r. ⌜ r ≡ first (answersBy owner (now (start .entry))) (slotsOf (now (slots .entry))) ⌝ }
+{
+    let from = skip(slots, owner, start);
+    search_rest(slots, from, owner, start)
 }
 
 // The lowest live slot that answers to the key.

@@ -1,40 +1,29 @@
 -- Slots that overlap share a bucket, so a slot that has its bucket for itself overlaps none. Assumes nothing.
-use Prim.Native.Nat.{ℕ, zero, suc, _+_, _*_, _-_, _/_, _%_, _^_, _≤_, _<_, max}
+use Prim.Native.Nat.{ℕ, zero, suc, _+_, _*_, _-_, _/_, _%_, _^_, _≤_, _<_}
 use mathlib.Core.Path.{_≡_, refl, ap, sym, _∙_}
 use mathlib.Core.List.{List, [], _∷_}
 use mathlib.Core.Bool.{Bool, true, false, _||_}
 use native.Mathlib.Omega.{arith}
-use native.Mathlib.Numerals.{add-one}
 use native.Mathlib.Nat.{le-max-left, le-max-right, le-refl, le-trans}
 use lib.Dec.{eqb, ltb}
 use lib.Pow.{split}
-use lib.Bits.{bitAnd, bitOr, and-mask, and-le-l, and-le-r, or-add-and}
-use lib.ListN.{length, getD, set, drop, drop-of-length-le}
-use lib.Seq.{drop-cons, getD-set-same, getD-set-other}
+use lib.Bits.{bitAnd, and-mask}
+use lib.ListN.{length, getD, set, drop}
+use lib.Seq.{getD-set-same, getD-set-other}
 use borrow.Author.Tests.{eqb-true, eqb-false, eq-eqb, ne-eqb, ltb-true}
 use Rattle.laws.specs.Tests.{anyOf}
 use Rattle.laws.proofs.Bools.{by-test, both-ways, clash, and-left, and-right, and-no, or-left, or-right, or-other}
 use Rattle.laws.proofs.Walks.{any-pass, any-end}
 use Rattle.machine.specs.Pages.{pageShift}
-use Rattle.machine.specs.Slots.{slotsOf, noSlot, isLive, sizeCode, holds}
+use Rattle.machine.specs.Slots.{noSlot, isLive, sizeCode, holds}
 use Rattle.machine.specs.Insertion.{overlaps}
 use Rattle.machine.specs.declared.Slot.{Slot}
 use Rattle.machine.proofs.Pages.{shift-small, coarser, start-block}
-use Rattle.machine.proofs.Slots.{slots-length, slot-get}
 use Rattle.tlb_sound.specs.Buckets.{largestCode, blockShift, bucketOf, inBucket}
 
 ruleset conj = (and-left, and-right)
 
 -- ---- the largest size code
-module _ (s : List Slot) (i : ℕ) where
-  largest-step : i < length s → largestCode (drop i s) ≡ max (sizeCode (getD s i noSlot)) (largestCode (drop (i + 1) s))
-  unfolding largestCode
-  largest-step h = rw (add-one, drop-cons s i noSlot)
-
-  pub largest-end : length s ≤ i → largestCode (drop i s) ≡ 0
-  unfolding largestCode
-  largest-end h = rw (drop-of-length-le s)
-
 largest-get : (s : List Slot) (i : ℕ) → i < length s → sizeCode (getD s i noSlot) ≤ largestCode s
 unfolding largestCode
 largest-get [] i h = absurd (omega arith)
@@ -46,14 +35,6 @@ unfolding largestCode
 largest-drop s zero = le-refl _
 largest-drop [] (suc i) = le-refl _
 largest-drop (x ∷ r) (suc i) = le-trans (largest-drop r i) (le-max-right _ _)
-
--- one turn: slot i's size code goes into the bound so far, m
-pub largest-turn : (l : List ℕ) (i m : ℕ) → i * 4 + 4 ≤ length l
-    → max m (largestCode (drop i (slotsOf l))) ≤ max (bitOr m (getD l (i * 4 + 2) 0 % 16)) (largestCode (drop (i + 1) (slotsOf l)))
-largest-turn l i m h =
-    let n : ℕ = getD l (i * 4 + 2) 0 % 16 in
-    rw (largest-step (slotsOf l) i (omega (arith, slots-length l)), ap (λ (x : Slot). sizeCode x) (slot-get l i h))
-    (omega (arith, or-add-and m n, and-le-l m n, and-le-r m n))
 
 -- ---- a shift for all size codes up to m
 shift-at-most : (code k : ℕ) → (code ≡ 0 → 13 ≤ k) → (code ≡ 1 → 16 ≤ k) → (code ≡ 3 → 22 ≤ k) → (code ≡ 5 → 28 ≤ k) → pageShift code ≤ k
@@ -135,32 +116,32 @@ unfolding bucketOf
 bucket-small k owner page = omega arith
 
 -- ---- marked buckets
--- a bucket that is not marked holds none of the slots
-abbrev pub Marked : ℕ → List Bool → List Slot → Type 0
-Marked k seen s = (b : ℕ) → getD seen b false ≡ false → anyOf (inBucket k b) s ≡ false
+-- a bucket that does not hold the mark holds none of the slots
+abbrev pub Marked : ℕ → List ℕ → ℕ → List Slot → Type 0
+Marked k seen mark s = (b : ℕ) → eqb (getD seen b 0) mark ≡ false → anyOf (inBucket k b) s ≡ false
 
-pub none-marked : (k : ℕ) (seen : List Bool) (s : List Slot) (j : ℕ) → length s ≤ j → Marked k seen (drop j s)
-none-marked k seen s j h b e = any-end noSlot s j (inBucket k b) h
+pub none-marked : (k : ℕ) (seen : List ℕ) (mark : ℕ) (s : List Slot) (j : ℕ) → length s ≤ j → Marked k seen mark (drop j s)
+none-marked k seen mark s j h b e = any-end noSlot s j (inBucket k b) h
 
-module _ (k : ℕ) (seen : List Bool) (s : List Slot) (j : ℕ) (h : j < length s) (later : Marked k seen (drop (j + 1) s)) where
+module _ (k : ℕ) (seen : List ℕ) (mark : ℕ) (s : List Slot) (j : ℕ) (h : j < length s) (later : Marked k seen mark (drop (j + 1) s)) where
   -- slot j is not live: nothing to mark
-  pub mark-empty : isLive (getD s j noSlot) ≡ false → Marked k seen (drop j s)
+  pub mark-empty : isLive (getD s j noSlot) ≡ false → Marked k seen mark (drop j s)
   unfolding inBucket
   mark-empty l b e = any-pass noSlot s j (inBucket k b) h (rw l) ∙ later b e
 
   -- slot j's bucket is marked
-  pub mark-live : (b₀ : ℕ) → b₀ ≡ bucketOf k (getD s j noSlot .owner) (getD s j noSlot .page) → b₀ < length seen → Marked k (set seen b₀ true) (drop j s)
+  pub mark-live : (b₀ : ℕ) → b₀ ≡ bucketOf k (getD s j noSlot .owner) (getD s j noSlot .page) → b₀ < length seen → Marked k (set seen b₀ mark) mark (drop j s)
   unfolding inBucket
   mark-live b₀ q m b e =
       by-test (eqb b b₀)
-      (λ t. clash (getD-set-same seen b₀ true false m) (rw (eqb-true b b₀ t) at e))
+      (λ t. clash (eq-eqb _ mark (getD-set-same seen b₀ mark 0 m)) (rw (eqb-true b b₀ t) at e))
       (λ t.
       let n : b ≡ b₀ → ⊥ = eqb-false b b₀ t in
       any-pass noSlot s j (inBucket k b) h (rw (ne-eqb _ b (λ g. n (sym g ∙ sym q))) (and-no (isLive (getD s j noSlot))))
-      ∙ later b (sym (getD-set-other seen b₀ b true false n) ∙ e))
+      ∙ later b (ap (λ v. eqb v mark) (sym (getD-set-other seen b₀ b mark 0 n)) ∙ e))
 
   -- slot j's bucket was not marked: it overlaps no later slot
-  pub alone : (m : ℕ) → Wide m k → largestCode s ≤ m → getD seen (bucketOf k (getD s j noSlot .owner) (getD s j noSlot .page)) false ≡ false
+  pub alone : (m : ℕ) → Wide m k → largestCode s ≤ m → eqb (getD seen (bucketOf k (getD s j noSlot .owner) (getD s j noSlot .page)) 0) mark ≡ false
       → anyOf (overlaps (getD s j noSlot)) (drop (j + 1) s) ≡ false
   alone m w p e =
       bucket-alone (getD s j noSlot) (drop (j + 1) s) m k w (le-trans (largest-get s j h) p) (le-trans (largest-drop s (j + 1)) p) (later _ e)

@@ -19,7 +19,7 @@ blockShift m = cond (ltb m 1) 13 (cond (ltb m 3) 16 (cond (ltb m 5) 22 28))
 
 -- a number that slots have in common if they overlap, for a shift that is at least that of both pages
 unfoldable pub bucketOf : ℕ → ℕ → ℕ → ℕ
-bucketOf shift owner page = bitXor (page / 2 ^ shift) (bitXor owner (owner / 2 ^ 8) % 1024 * 61) % 1024
+bucketOf shift owner page = bitXor (page / 2 ^ shift) (owner % 2 ^ 17 * 7809 / 2 ^ 7) % 1024
 
 -- a live slot of the bucket b
 unfoldable pub inBucket : ℕ → ℕ → Slot → Bool

@@ -1,66 +1,108 @@
 // Soundness of the slots of one side: document 01, "Sound means". Any number of slots.
 ghost use mathlib.Core.Path.{_≡_};
 ghost use mathlib.Core.Bool.{true, false, not};
-ghost use Prim.Native.Nat.{_+_, _-_, _*_, _<_, _≤_};
+ghost use Prim.Native.Nat.{_+_, _*_, _<_, _≤_};
 ghost use lib.ListN.{length, drop};
 ghost use Rattle.laws.specs.Tests.{anyOf, allOf, pairwise};
 ghost use Rattle.machine.specs.Pages.{pageSize};
 ghost use Rattle.machine.specs.Slots.{slotsOf, slotOf, isLive, sizeCode};
 ghost use Rattle.machine.specs.Insertion.{overlaps};
-ghost use Rattle.machine.specs.Sound.{ownerSound, pageSound, liveSound, emptySound, slotSound, sideSound};
+ghost use Rattle.machine.specs.Sound.{liveSound, emptySound, slotSound, sideSound};
 ghost use Rattle.tlb.specs.Tables.{spansOf};
 ghost use Rattle.tlb_sound.specs.Buckets.{largestCode, blockShift, bucketOf};
+ghost use Rattle.tlb_sound.specs.Digests.{digestOne, joined, digestOf, fieldsFit, plain};
 use machine::Slot;
 
-// Partition 0 to 7, and context 0 when real.
-pub fn owner_sound(x: Slot) -> bool
-    ensures { λ r. ⌜ r ≡ ownerSound x ⌝ }
+// What the slots of a side have: their owners, pages, words and flags by or, their words by and too.
+struct Digest {
+    owners: u64,
+    pages: u64,
+    words: u64,
+    common: u64,
+    flags: u64,
+}
+
+// The digest with one slot more. A page in range is below 2^48 when it is counted from the lowest one, 2^64 - 2^47.
+fn gather(d: Digest, x: Slot) -> Digest
+    ensures { λ r. ⌜ r ≡ joined d (digestOne x) ⌝ }
 {
-    if 8 <= x.owner >> 14 {
+    let reach = std::num::wrapping_add_u64(x.page, 0x8000_0000_0000);
+    Digest {
+        owners: d.owners | x.owner,
+        pages: d.pages | reach,
+        words: d.words | x.word,
+        common: d.common & x.word,
+        flags: d.flags | x.flags,
+    }
+}
+
+// The digest of all slots, in one pass without branches.
+fn digest_of(slots: &[u64]) -> Digest
+    ensures { λ r. ⌜ r ≡ digestOf (slotsOf (now (slots .entry))) ⌝ }
+{
+    let n = slots.len() / 4;
+    let mut d = Digest {
+        owners: 0,
+        pages: 0,
+        words: 0,
+        common: u64::MAX,
+        flags: 0,
+    };
+    let mut i = 0;
+    while i < n {
+        d = gather(d, tlb::slot_at(slots, i));
+        i += 1;
+    }
+    d
+}
+
+// Whether no slot has a bit that no sound slot has.
+fn fields_fit(d: Digest) -> bool
+    ensures { λ r. ⌜ r ≡ fieldsFit d ⌝ }
+{
+    if 0x2_0000 <= d.owners {
         return false;
     }
-    if (x.owner >> 13) % 2 != 1 {
-        return true;
-    }
-    x.owner % 0x2000 == 0
-}
-
-// The bits of an address below a page start, by size code.
-fn page_mask(code: u64) -> u64
-    ensures { λ r. ⌜ r ≡ pageSize code - 1 ⌝ }
-{
-    match code {
-        0 => 0x1FFF,
-        1 => 0xFFFF,
-        3 => 0x3F_FFFF,
-        5 => 0xFFF_FFFF,
-        _ => 0,
-    }
-}
-
-// In range and at a page start.
-pub fn page_sound(x: Slot) -> bool
-    ensures { λ r. ⌜ r ≡ pageSound x ⌝ }
-{
-    if !pages::in_range(x.page) {
+    if 0x1_0000_0000_0000 <= d.pages {
         return false;
     }
-    x.page & page_mask(x.word % 16) == 0
+    if d.pages % 0x2000 != 0 {
+        return false;
+    }
+    if (d.words >> 40) % 0x1_0000 != 0 {
+        return false;
+    }
+    d.flags < 4
 }
 
+// Whether every slot is live and virtual and has size code 0: there is nothing more to ask of one whose fields fit.
+fn all_plain(d: Digest) -> bool
+    ensures { λ r. ⌜ r ≡ plain d ⌝ }
+{
+    if d.words % 16 != 0 {
+        return false;
+    }
+    if (d.owners >> 13) % 2 != 0 {
+        return false;
+    }
+    d.common >> 63 == 1
+}
+
+// Whether a live slot whose fields fit is sound: a listed size, at a page start, and context 0 when real.
 fn live_sound(x: Slot) -> bool
+    requires { ⌜ (isLive x ≡ true) × (fieldsFit (digestOne x) ≡ true) ⌝ }
     ensures { λ r. ⌜ r ≡ liveSound x ⌝ }
 {
-    if !tte::word_sound(x.word) {
+    let mask = pages::page_mask(x.word % 16);
+    // an unlisted code has no page
+    if mask == 0 {
         return false;
     }
-    if !owner_sound(x) {
+    if x.page & mask != 0 {
         return false;
     }
-    if !page_sound(x) {
-        return false;
-    }
-    x.flags < 4
+    // the real bit stands above the context
+    x.owner % 0x4000 <= 0x2000
 }
 
 fn empty_sound(x: Slot) -> bool
@@ -78,8 +120,9 @@ fn empty_sound(x: Slot) -> bool
     x.flags == 0
 }
 
-// Whether one slot is sound by itself.
-pub fn slot_sound(x: Slot) -> bool
+// Whether a slot whose fields fit is sound by itself.
+fn slot_sound(x: Slot) -> bool
+    requires { ⌜ fieldsFit (digestOne x) ≡ true ⌝ }
     ensures { λ r. ⌜ r ≡ slotSound x ⌝ }
 {
     if x.word >> 63 == 1 {
@@ -88,18 +131,27 @@ pub fn slot_sound(x: Slot) -> bool
     empty_sound(x)
 }
 
-// A number that is at least each slot's size code: all of them by or, which is the largest where all are listed.
-fn code_bound(slots: &[u64]) -> u64
-    ensures { λ r. ⌜ largestCode (slotsOf (now (slots .entry))) ≤ r ⌝ }
+// Whether each slot is sound by itself. A side of virtual 8 KB pages is settled by its digest.
+fn slots_sound(slots: &[u64], d: Digest) -> bool
+    requires { ⌜ d ≡ digestOf (slotsOf (now slots)) ⌝ }
+    ensures { λ r. ⌜ r ≡ allOf slotSound (slotsOf (now (slots .entry))) ⌝ }
 {
+    if !fields_fit(d) {
+        return false;
+    }
+    if all_plain(d) {
+        return true;
+    }
     let n = slots.len() / 4;
-    let mut codes = 0;
     let mut i = 0;
     while i < n {
-        codes = codes | slots[i * 4 + 2] % 16;
+        let x = tlb::slot_at(slots, i);
+        if !slot_sound(x) {
+            return false;
+        }
         i += 1;
     }
-    codes
+    true
 }
 
 // A shift that is at least the page shift of each size code up to this one.
@@ -114,12 +166,13 @@ fn block_shift(code: u64) -> u64
     }
 }
 
-// A number below 1024 that slots have in common if they overlap; the shift is at least that of both pages.
-pub fn bucket(owner: u64, page: u64, shift: u64) -> usize
+// A number below 1024 that slots have in common if they overlap; the shift is at least that of both pages. The multiplier puts
+// partitions 128 buckets apart, and neighbouring contexts about 61.
+fn bucket(owner: u64, page: u64, shift: u64) -> usize
     requires { ⌜ shift < 64 ⌝ }
     ensures { λ r. ⌜ r ≡ bucketOf shift owner page ⌝ }
 {
-    let mixed = (owner ^ owner >> 8) % 1024 * 61;
+    let mixed = owner % 0x2_0000 * 7809 >> 7;
     ((page >> shift ^ mixed) % 1024) as usize
 }
 
@@ -172,40 +225,40 @@ fn shared_overlaps_none(slots: &[u64], x: Slot, from: usize, shared: bool) -> bo
     true
 }
 
-// Whether no two of the slots, each sound by itself, overlap: from the last slot to the first.
-fn overlap_free(slots: &[u64]) -> bool
-    requires { ⌜ allOf slotSound (slotsOf (now slots)) ≡ true ⌝ }
+// Whether no two of the slots, each sound by itself, overlap: from the last slot to the first. No size code is above the one given. A bucket
+// that has a slot holds the mark; what else the table holds costs time alone.
+fn overlap_free(slots: &[u64], code: u64, seen: &mut [u8], mark: u8) -> bool
+    requires { ⌜ (allOf slotSound (slotsOf (now slots)) ≡ true) × (largestCode (slotsOf (now slots)) ≤ code) × (length (now seen) ≡ 1024) ⌝ }
     ensures { λ r. ⌜ r ≡ pairwise overlaps (slotsOf (now (slots .entry))) ⌝ }
 {
-    let most = block_shift(code_bound(slots));
-    let mut seen = [false; 1024];
+    let most = block_shift(code);
     let mut i = slots.len() / 4;
     while 0 < i {
         i -= 1;
         let x = tlb::slot_at(slots, i);
         if x.word >> 63 == 1 {
             let b = bucket(x.owner, x.page, most);
-            if !shared_overlaps_none(slots, x, i + 1, seen[b]) {
+            if !shared_overlaps_none(slots, x, i + 1, seen[b] == mark) {
                 return false;
             }
-            seen[b] = true;
+            seen[b] = mark;
         }
     }
     true
 }
 
-// Whether each slot is sound and no two overlap.
-pub fn side_sound(slots: &[u64]) -> bool
+// Whether each slot is sound and no two overlap. The table may hold anything; a mark that it does not hold makes this fast.
+pub fn side_sound(slots: &[u64], seen: &mut [u8], mark: u8) -> bool
+    requires { ⌜ length (now seen) ≡ 1024 ⌝ }
     ensures { λ r. ⌜ r ≡ sideSound (slotsOf (now (slots .entry))) ⌝ }
 {
-    let n = slots.len() / 4;
-    let mut i = 0;
-    while i < n {
-        let x = tlb::slot_at(slots, i);
-        if !slot_sound(x) {
-            return false;
-        }
-        i += 1;
+    let d = digest_of(slots);
+    if !slots_sound(slots, d) {
+        return false;
     }
-    overlap_free(slots)
+    // no slot is live
+    if d.words >> 63 == 0 {
+        return true;
+    }
+    overlap_free(slots, d.words % 16, seen, mark)
 }

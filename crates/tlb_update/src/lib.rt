@@ -27,13 +27,16 @@ fn owned_by(x: Slot, owner: u64) -> bool
 }
 
 // The entry that answers to a key.
-fn answers(x: Slot, key: Key) -> bool
+pub fn answers(x: Slot, key: Key) -> bool
     ensures { λ r. ⌜ r ≡ answersTo key x ⌝ }
 {
-    if !owned_by(x, tlb::key_owner(key)) {
+    if x.owner != tlb::key_owner(key) {
         return false;
     }
-    pages::page_start(x.word % 16, tlb::key_address(key)) == x.page
+    if pages::page_start(x.word % 16, tlb::key_address(key)) != x.page {
+        return false;
+    }
+    tlb::is_live(x)
 }
 
 // A partition's unlocked entry.

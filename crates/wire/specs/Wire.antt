@@ -30,7 +30,8 @@ shortOf s =
     (cond (eqb (byte s 0) 5) (command.DemapAll (byte s 1) (byte s 2))
     (cond (eqb (byte s 0) 8) (command.Read (byte s 1) (byte s 2))
     (cond (eqb (byte s 0) 9) (command.Pointers (byte s 1) (byte s 2))
-    (command.Invalidate (byte s 1)))))
+    (cond (eqb (byte s 0) 6) (command.Invalidate (byte s 1))
+    (command.Invalidate 0)))))
 
 -- a command that is known and whole, at the front of the bytes
 abbrev pub commandOf : Bytes → Command

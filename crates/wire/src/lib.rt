@@ -57,7 +57,7 @@ fn command_width(byte: u8) -> usize
     }
 }
 
-// A command of one-byte operands alone. The arm `_` is invalidate, the shortest.
+// A command of one-byte operands alone. No command takes the arm `_`: with all nine told apart the compiler asks the byte's range once.
 fn short_command(rest: &[u8]) -> Command
     requires { ⌜ (2 ≤ length (now rest)) × (widthOf (byteOf (now rest) 0) ≤ length (now rest)) ⌝ }
     ensures { λ r. ⌜ r ≡ shortOf (now (rest .entry)) ⌝ }
@@ -81,7 +81,8 @@ fn short_command(rest: &[u8]) -> Command
             strand: first,
             side: rest[2],
         },
-        _ => Command::Invalidate { side: first },
+        6 => Command::Invalidate { side: first },
+        _ => Command::Invalidate { side: 0 },
     }
 }
 

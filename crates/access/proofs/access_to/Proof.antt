@@ -2,12 +2,14 @@
 use mathlib.Core.Path.{refl, sym, _∙_}
 use borrow.Author.Needs.{needs}
 use Rattle.machine.specs.State.{counts}
-use Rattle.machine.proofs.State.{encode-state}
+use Rattle.machine.proofs.State.{encode-state, sound-registers}
 use Rattle.access.proofs.access_to.Statement.{statement}
 use Rattle.access.proofs.access_to.Tie as tie
 
 prepare-access-requires : tie.Need-prepare-access-requires
-prepare-access-requires c κs = search needs
+prepare-access-requires c κs =
+    let s = c .before .before in
+    (s .pre .0, s .pre .1, s .pre .2, sound-registers counts _ (s .pre .3))
 
 enum-known-prepared : tie.Need-enum-known-prepared
 enum-known-prepared c = search needs
@@ -53,7 +55,7 @@ same-length-3 c = search needs
 returns-3 : tie.Need-returns-3
 returns-3 c =
     let call = c .before .before in
-    let at = call .before .before .before in
+    let at = call .before .before .before .before in
     rw (sym (at .before .before .prepare-access .ensures .0) ∙ at .prepared3 .given .1) (call .look-up .ensures)
 
 pub access-to-spec : {M : Type 1} → statement M

@@ -6,23 +6,24 @@ use Rattle.laws.proofs.Walks.{found-at}
 use Rattle.machine.specs.Questions.{kindSide}
 use Rattle.machine.specs.Slots.{noSlot, answersTo, search as lookup}
 use Rattle.machine.specs.State.{counts, State, stateOf, sideOf}
-use Rattle.machine.proofs.State.{kind-side}
-use Rattle.state.proofs.Parts.{sized-words}
-use Rattle.access.proofs.Laws.{side-slots}
+use Rattle.machine.proofs.State.{kind-side, sound-registers}
+use Rattle.state.proofs.Lent.{side-slots}
 use Rattle.access.proofs.look_up.Statement.{statement}
 use Rattle.access.proofs.look_up.Tie as tie
 
 -- what the search of the access's side found
-found : (c : tie.After-search-side)
-    → (let s = c .before .before .before .before in
-    lookup (s .args .key) (sideOf (stateOf counts (s .args .state .now)) (kindSide (s .args .a .kind))) ≡ c .search-side .result)
-found c = sym (c .search-side .ensures ∙ rw (c .before .access-side .ensures))
+found : (c : tie.After-search-hinted)
+    → (let s = c .before .before .before .before .before in
+    lookup (s .args .key) (sideOf (stateOf counts (s .args .state .now)) (kindSide (s .args .a .kind))) ≡ c .search-hinted .result)
+found c = sym (c .search-hinted .ensures ∙ rw (c .before .access-side .ensures))
 
 access-side-requires : tie.Need-access-side-requires
 access-side-requires c κs = search needs
 
-search-side-requires : tie.Need-search-side-requires
-search-side-requires c κs = omega (arith, kind-side (c .before .before .before .args .a .kind))
+search-hinted-requires : tie.Need-search-hinted-requires
+search-hinted-requires c κs =
+    let s = c .before .before .before .before in
+    (s .pre .0, omega (arith, c .access-side .ensures, kind-side (s .args .a .kind)), s .pre .2)
 
 enum-known-found : tie.Need-enum-known-found
 enum-known-found c = search needs
@@ -31,17 +32,19 @@ settle-hit-requires : tie.Need-settle-hit-requires
 settle-hit-requires c κs =
     let at = c .before .before in
     let look = at .before .before in
-    let s = look .before .before .before .before in
+    let s = look .before .before .before .before .before in
     let u : State = stateOf counts (s .args .state .now) in
     let side = kindSide (s .args .a .kind) in
     let i = found-at noSlot (answersTo (s .args .key)) (sideOf u side) _ (found look ∙ at .found .given .1) .0 in
-    (s .pre .0, s .pre .1, omega (arith, i, side-slots u (sized-words counts (s .args .state .now) (s .pre .0)) side), s .pre .2)
+    (s .pre .0, s .pre .1, omega (arith, i, side-slots (s .args .state .now) (s .pre .0) side), sound-registers counts u (s .pre .2))
 
 enum-told : tie.Need-enum-told
 enum-told c = search needs
 
 settle-miss-requires : tie.Need-settle-miss-requires
-settle-miss-requires c κs = search needs
+settle-miss-requires c κs =
+    let s = c .before .before .before .before .before .before .before .before in
+    (s .pre .0, s .pre .1, sound-registers counts _ (s .pre .2))
 
 same-length : tie.Need-same-length
 same-length c = search needs
@@ -66,7 +69,7 @@ look-up-spec =
     tie.close
     (tie.spec
     access-side-requires
-    search-side-requires
+    search-hinted-requires
     enum-known-found
     settle-hit-requires
     enum-told

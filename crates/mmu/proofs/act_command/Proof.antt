@@ -60,8 +60,8 @@ enum-known-command-7 c = search needs
 
 act-access-requires : tie.Need-act-access-requires
 act-access-requires c κs =
-    let start = c .before .before .before .before .before in
-    (search needs, start .pre .1, rw (c .before .before .command7 .given .1) at (start .pre .2))
+    let start = c .before .before .before .before .before .before in
+    (search needs, start .pre .1, rw (c .before .before .before .command7 .given .1) at (start .pre .2))
 
 enum-known-command-8 : tie.Need-enum-known-command-8
 enum-known-command-8 c = search needs
@@ -139,7 +139,7 @@ same-length-7 c = search needs
 returns-7 : tie.Need-returns-7
 returns-7 c =
     let did = c .before .before in
-    let e = did .before .before .before .command7 .given .1 in
+    let e = did .before .before .before .before .command7 .given .1 in
     (did .act-access .ensures .0 ∙ rw e, did .act-access .ensures .1 ∙ rw e)
 
 same-length-8 : tie.Need-same-length-8

@@ -28,8 +28,9 @@ enum-told c = search needs
 
 act-command-requires : tie.Need-act-command-requires
 act-command-requires c κs =
-    let q = c .before .before .before in
-    (search needs, q .before .before .before .pre .1, sym (q .question .ensures) ∙ c .before .enum-told .given .1)
+    let told = c .before .before in
+    let q = told .before .before in
+    (search needs, q .before .before .before .pre .1, sym (q .question .ensures) ∙ told .enum-told .given .1)
 
 same-length-2 : tie.Need-same-length-2
 same-length-2 c = search needs
@@ -38,8 +39,9 @@ returns-2 : tie.Need-returns-2
 unfolding step
 returns-2 c =
     let a = c .before .before in
-    let q = a .before .before .before .before in
-    let e = sym (q .question .ensures) ∙ a .before .before .enum-told .given .1 in
+    let told = a .before .before .before in
+    let q = told .before .before in
+    let e = sym (q .question .ensures) ∙ told .enum-told .given .1 in
     (a .act-command .ensures .0 ∙ rw e, a .act-command .ensures .1 ∙ rw e)
 
 pub execute-spec : {M : Type 1} → statement M

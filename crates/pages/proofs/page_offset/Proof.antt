@@ -1,19 +1,15 @@
--- `pages::page_offset` meets its contract: an address is its page's start and the offset.
-use native.Mathlib.Omega.{arith}
+-- `pages::page_offset` meets its contract: the offset is the address's bits below the page's start.
 use borrow.Author.Needs.{needs}
-use lib.Pow.{split}
+use lib.Bits.{and-mask}
 use Rattle.machine.specs.Pages.{pageShift}
 use Rattle.pages.proofs.page_offset.Statement.{statement}
 use Rattle.pages.proofs.page_offset.Tie as tie
 
-page-start-requires : tie.Need-page-start-requires
-page-start-requires c κs = search needs
-
-sub-result : tie.Need-sub-result
-sub-result c = omega (arith, c .page-start .ensures, split (c .before .args .address) (pageShift (c .before .args .code)))
+page-mask-requires : tie.Need-page-mask-requires
+page-mask-requires c κs = search needs
 
 returns : tie.Need-returns
-returns c = omega (arith, c .page-start .ensures, split (c .before .args .address) (pageShift (c .before .args .code)))
+returns c = rw (c .page-mask .ensures) (and-mask (c .before .args .address) (pageShift (c .before .args .code)))
 
 pub page-offset-spec : {M : Type 1} → statement M
-page-offset-spec = tie.close (tie.spec page-start-requires sub-result returns)
+page-offset-spec = tie.close (tie.spec page-mask-requires returns)

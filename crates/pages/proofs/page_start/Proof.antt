@@ -1,27 +1,19 @@
--- `pages::page_start` meets its contract: what is shifted back does not leave the word.
+-- `pages::page_start` meets its contract: an address is its page's start and the offset.
 use native.Mathlib.Omega.{arith}
-use native.Mathlib.Nat.{mod-eq-of-lt}
-use lib.Pow.{split}
 use borrow.Author.Needs.{needs}
+use lib.Pow.{split}
 use Rattle.machine.specs.Pages.{pageShift}
-use Rattle.machine.proofs.Pages.{shift-small}
 use Rattle.pages.proofs.page_start.Statement.{statement}
 use Rattle.pages.proofs.page_start.Tie as tie
 
-page-shift-requires : tie.Need-page-shift-requires
-page-shift-requires c κs = search needs
+page-offset-requires : tie.Need-page-offset-requires
+page-offset-requires c κs = search needs
 
-shr-result : tie.Need-shr-result
-shr-result c = rw (c .page-shift .ensures) (omega (arith, shift-small (c .before .args .code)))
-
-shl-result : tie.Need-shl-result
-shl-result c = rw (c .page-shift .ensures) (omega (arith, shift-small (c .before .args .code)))
+sub-result : tie.Need-sub-result
+sub-result c = omega (arith, c .page-offset .ensures, split (c .before .args .address) (pageShift (c .before .args .code)))
 
 returns : tie.Need-returns
-returns c =
-    let a = c .before .args .address in
-    let k = pageShift (c .before .args .code) in
-    rw (c .page-shift .ensures) (mod-eq-of-lt (omega (arith, split a k)))
+returns c = omega (arith, c .page-offset .ensures, split (c .before .args .address) (pageShift (c .before .args .code)))
 
 pub page-start-spec : {M : Type 1} → statement M
-page-start-spec = tie.close (tie.spec page-shift-requires shr-result shl-result returns)
+page-start-spec = tie.close (tie.spec page-offset-requires sub-result returns)

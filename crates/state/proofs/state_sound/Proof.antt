@@ -29,6 +29,9 @@ returns-2 c =
     let file = c .before .file-sound in
     rw (lent-sound (at1 .before .before .args .state .now) (at1 .if1 .left), sym (file .ensures) ∙ not-true _ (c .if2 .taken))
 
+slice-aggregate-seen : tie.Need-slice-aggregate-seen
+slice-aggregate-seen c = search needs
+
 sub-side-sound : tie.Need-sub-side-sound
 sub-side-sound c = search needs
 
@@ -43,12 +46,13 @@ side-sound-requires c κs = search needs
 
 returns-3 : tie.Need-returns-3
 returns-3 c =
-    let at2 = c .before .before .before in
+    let at3 = c .before in
+    let at2 = at3 .before .before .before .before .before .before .before in
     let at1 = at2 .before .before .before in
     rw (
       lent-sound (at1 .before .before .args .state .now) (at1 .if1 .left),
       sym (at2 .before .file-sound .ensures) ∙ not-false _ (at2 .if2 .left),
-      sym (c .before .side-sound .ensures) ∙ not-true _ (c .if3 .taken),
+      sym (at3 .before .before .before .side-sound .ensures) ∙ not-true _ (at3 .if3 .taken),
     )
 
 sub-side-sound-2 : tie.Need-sub-side-sound-2
@@ -65,14 +69,14 @@ side-sound-requires-2 c κs = search needs
 
 returns-4 : tie.Need-returns-4
 returns-4 c =
-    let at3 = c .before .before in
-    let at2 = at3 .before .before .before in
+    let at3 = c .before .before .before in
+    let at2 = at3 .before .before .before .before .before .before .before in
     let at1 = at2 .before .before .before in
     rw (
       lent-sound (at1 .before .before .args .state .now) (at1 .if1 .left),
       sym (at2 .before .file-sound .ensures) ∙ not-false _ (at2 .if2 .left),
-      sym (at3 .before .side-sound .ensures) ∙ not-false _ (at3 .if3 .left),
-      c .side-sound2 .ensures,
+      sym (at3 .before .before .before .side-sound .ensures) ∙ not-false _ (at3 .if3 .left),
+      c .before .side-sound2 .ensures,
     )
 
 pub state-sound-spec : {M : Type 1} → statement M
@@ -85,6 +89,7 @@ state-sound-spec =
     part-file-sound-end
     file-sound-requires
     returns-2
+    slice-aggregate-seen
     sub-side-sound
     part-side-sound-start
     part-side-sound-end

@@ -1,6 +1,6 @@
 -- `stream::run` meets its contract. The loop's invariant: the words are those of a sound state, and the commands yet to be taken, from that
 -- state, the output and the position as they are, make the whole run's outcome (`resume`). A turn leaves that as it is (`resume-turn`), and
--- each way out of the loop has its own law. The measure is what is left of the input.
+-- each way out of the loop has its own law. Of the hints nothing is said. The measure is what is left of the input.
 -- Assumes nothing.
 use Prim.Native.Nat.{ℕ, _+_, _*_, _-_, _^_, _≤_, _<_}
 use mathlib.Core.Path.{_≡_, refl, sym, ap, _∙_}
@@ -35,10 +35,10 @@ record Going (state₀ input output₀ words output : List ℕ) (at answered : �
   rest : resume (stateOf counts words) input output answered at ≡ runOf counts state₀ input output₀
 
 abbrev Inv-loop : tie.InvT-loop
-Inv-loop state₀ input output₀ at₀ answered₀ words output at answered = Going state₀ input output₀ words output at answered
+Inv-loop state₀ input output₀ hints₀ at₀ answered₀ words output hints at answered = Going state₀ input output₀ words output at answered
 
 abbrev μ-loop : tie.MeasureT-loop
-μ-loop state₀ input output₀ at₀ answered₀ words output at answered = length input - at
+μ-loop state₀ input output₀ hints₀ at₀ answered₀ words output hints at answered = length input - at
 
 -- a run that ends here leaves the words as they are
 over : {state₀ input output₀ words output : List ℕ} {at answered : ℕ} (k : ℕ) → Going state₀ input output₀ words output at answered
@@ -167,7 +167,7 @@ returns-3 c =
 
 execute-requires : tie.Need-execute-requires Inv-loop μ-loop
 execute-requires c κs =
-    let l = c .before .before .before .before .before .before .before .loop in
+    let l = c .before .before .before .before .before .before .before .before .loop in
     (l .inv .size, l .inv .sound)
 
 mul-put-answer : tie.Need-mul-put-answer Inv-loop μ-loop
@@ -178,7 +178,7 @@ put-answer-requires c κs = omega arith
 
 -- the turn's command, from where the turn ends
 abbrev decoded : tie.After-slice-known4 Inv-loop μ-loop → tie.After-decoded Inv-loop μ-loop
-decoded c = c .before .before .before .before .before .before .before .before .before
+decoded c = c .before .before .before .before .before .before .before .before .before .before
 
 add-at : tie.Need-add-at Inv-loop μ-loop
 add-at c = omega (arith, within (decoded c))

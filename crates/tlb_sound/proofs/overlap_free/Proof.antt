@@ -1,4 +1,4 @@
--- `tlb_sound::overlap_free` meets its contract. The invariant: no two of the slots from i on overlap, and a bucket that is not marked
+-- `tlb_sound::overlap_free` meets its contract. The invariant: no two of the slots from i on overlap, and a bucket without the mark
 -- holds none of them.
 use Prim.Native.Nat.{ℕ, _≤_, _<_, _-_, _+_, _/_}
 use mathlib.Core.Path.{_≡_, sym, ap, _∙_}
@@ -6,7 +6,8 @@ use mathlib.Core.Bool.{true, false}
 use native.Mathlib.Omega.{arith}
 use borrow.Author.Needs.{needs}
 use borrow.Author.Tests.{eq-eqb, ne-eqb, not-true, not-false}
-use lib.ListN.{length, drop, getD, replicate, length-set, length-replicate}
+use lib.Dec.{eqb}
+use lib.ListN.{length, drop, getD, length-set}
 use Rattle.laws.specs.Tests.{anyOf, pairwise}
 use Rattle.laws.proofs.Alls.{all-get}
 use Rattle.laws.proofs.Bools.{denies-true, denies-false}
@@ -22,26 +23,25 @@ use Rattle.tlb_sound.proofs.overlap_free.Statement.{statement}
 use Rattle.tlb_sound.proofs.overlap_free.Tie as tie
 
 abbrev Inv-loop : tie.InvT-loop
-Inv-loop slots most seen₀ i₀ seen i =
-    (i ≤ length slots / 4) × (length seen ≡ 1024) × (pairwise overlaps (drop i (slotsOf slots)) ≡ true) × Marked most seen (drop i (slotsOf slots))
+Inv-loop slots code seen₀ mark most i₀ seen i =
+    (i ≤ length slots / 4) × (length seen ≡ 1024) × (pairwise overlaps (drop i (slotsOf slots)) ≡ true)
+    × Marked most seen mark (drop i (slotsOf slots))
 
 abbrev μ-loop : tie.MeasureT-loop
-μ-loop slots most seen₀ i₀ seen i = i
-
-code-bound-requires : tie.Need-code-bound-requires Inv-loop μ-loop
-code-bound-requires c κs = search needs
+μ-loop slots code seen₀ mark most i₀ seen i = i
 
 block-shift-requires : tie.Need-block-shift-requires Inv-loop μ-loop
 block-shift-requires c κs = search needs
 
 loop-holds : tie.Need-loop-holds Inv-loop μ-loop
 loop-holds c =
-    let l = c .before .before .before .args .slots .now in
+    let a = c .before .before .before .args in
+    let l = a .slots .now in
     let n : ℕ = length l / 4 in (
       omega arith,
-      length-replicate 1024 false,
+      c .before .before .before .pre .2,
       pair-end noSlot (slotsOf l) n overlaps (omega (arith, slots-length l)),
-      none-marked (c .block-shift .result) (replicate 1024 false) (slotsOf l) n (omega (arith, slots-length l)),
+      none-marked (c .block-shift .result) (a .seen .now) (a .mark) (slotsOf l) n (omega (arith, slots-length l)),
     )
 
 sub-i : tie.Need-sub-i Inv-loop μ-loop
@@ -69,7 +69,7 @@ rest c =
 
 later : (c : tie.After-slot-at Inv-loop μ-loop) →
     let at = c .before .before in
-    Marked (at .before .block-shift .result) (at .loop .seen) (drop (at .loop .i - 1 + 1) (slotsOf (at .before .before .before .before .args .slots .now)))
+    Marked (at .before .block-shift .result) (at .loop .seen) (at .before .before .before .before .args .mark) (drop (at .loop .i - 1 + 1) (slotsOf (at .before .before .before .before .args .slots .now)))
 later c b e =
     let at = c .before .before in
     let s = slotsOf (at .before .before .before .before .args .slots .now) in
@@ -78,37 +78,49 @@ later c b e =
 bucket-requires : tie.Need-bucket-requires Inv-loop μ-loop
 bucket-requires c κs =
     let big = c .before .before .before .before .before in
-    omega (arith, big .block-shift .ensures, block-small (big .before .code-bound .result))
+    omega (arith, big .block-shift .ensures, block-small (big .before .before .before .args .code))
 
 add-shared-overlaps-none : tie.Need-add-shared-overlaps-none Inv-loop μ-loop
 add-shared-overlaps-none c = omega arith
 
-array-read-shared-overlaps-none : tie.Need-array-read-shared-overlaps-none Inv-loop μ-loop
-array-read-shared-overlaps-none c = rw (c .bucket .ensures) (bucket-small _ _ _)
+-- the bucket is one of the table
+inside : (c : tie.After-bucket Inv-loop μ-loop) → c .bucket .result < length (c .before .before .before .before .before .loop .seen)
+inside c = rw (c .bucket .ensures, c .before .before .before .before .before .loop .inv .1) (bucket-small _ _ _)
+
+slice-read-shared-overlaps-none : tie.Need-slice-read-shared-overlaps-none Inv-loop μ-loop
+slice-read-shared-overlaps-none c = inside (c .before)
 
 shared-overlaps-none-requires : tie.Need-shared-overlaps-none-requires Inv-loop μ-loop
 shared-overlaps-none-requires c κs =
-    let t = c .before .before .before in
+    let k = c .before in
+    let t = k .before .before .before in
     let at = t .before .before in
     let f = at .before .before .before .before in
-    let code = at .before .before .code-bound in
     let most = at .before .block-shift .result in
-    let wide : Wide (code .result) most = λ n h. rw (at .before .block-shift .ensures) (block-wide (code .result) n h) in
+    let wide : Wide (f .args .code) most = λ n h. rw (at .before .block-shift .ensures) (block-wide (f .args .code) n h) in
     let s = slotsOf (at .before .before .before .before .args .slots .now) in
     let j = at .loop .i - 1 in
     let is = t .slot-at .ensures in
-    let b : c .bucket .result ≡ bucketOf most (getD s j noSlot .owner) (getD s j noSlot .page) =
-    c .bucket .ensures ∙ ap (λ x. bucketOf most (x .owner) (x .page)) is in (
-      eq-eqb _ _ (c .before .if1 .taken),
-      ap slotSound is ∙ all-get slotSound noSlot s j no-slot-sound (f .pre),
-      f .pre,
+    let b : k .bucket .result ≡ bucketOf most (getD s j noSlot .owner) (getD s j noSlot .page) =
+    k .bucket .ensures ∙ ap (λ x. bucketOf most (x .owner) (x .page)) is in (
+      eq-eqb _ _ (k .before .if1 .taken),
+      ap slotSound is ∙ all-get slotSound noSlot s j no-slot-sound (f .pre .0),
+      f .pre .0,
       λ e. ap (λ x. anyOf (overlaps x) (drop (j + 1) s)) is
-          ∙ alone most (at .loop .seen) s j (within t) (later t) (code .result) wide (code .ensures) (ap (λ n. getD (at .loop .seen) n false) (sym b) ∙ e),
+          ∙ alone most (at .loop .seen) (f .args .mark) s j (within t) (later t) (f .args .code) wide (f .pre .1)
+          (ap (λ n. eqb (getD (at .loop .seen) n 0) (f .args .mark)) (sym b) ∙ e),
     )
+
+-- the table is as long as it was
+as-long : (c : tie.In-loop Inv-loop μ-loop) → length (c .before .loop .seen) ≡ length (c .before .before .before .before .before .args .seen .now)
+as-long c = c .before .loop .inv .1 ∙ sym (c .before .before .before .before .before .pre .2)
+
+same-length : tie.Need-same-length Inv-loop μ-loop
+same-length c = as-long (c .before .before .before .before .before .before .before)
 
 returns : tie.Need-returns Inv-loop μ-loop
 returns c =
-    let t = c .before .before .before .before .before in
+    let t = c .before .before .before .before .before .before in
     let at = t .before .before in
     let s = slotsOf (at .before .before .before .before .args .slots .now) in
     let j = at .loop .i - 1 in
@@ -116,15 +128,15 @@ returns c =
     ap (λ x. anyOf (overlaps x) (drop (j + 1) s)) (sym (t .slot-at .ensures)) ∙ denies-false (c .before .shared-overlaps-none .ensures) (not-true _ (c .if2 .taken)) in
     sym (pair-drop overlaps s j (pair-fail noSlot s j overlaps (within t) m))
 
-array-write-seen : tie.Need-array-write-seen Inv-loop μ-loop
-array-write-seen c = rw (c .before .before .bucket .ensures) (bucket-small _ _ _)
+slice-write-seen : tie.Need-slice-write-seen Inv-loop μ-loop
+slice-write-seen c = inside (c .before .before .before)
 
 loop-less : tie.Need-loop-less Inv-loop μ-loop
 loop-less c = omega arith
 
 loop-again : tie.Need-loop-again Inv-loop μ-loop
 loop-again c =
-    let r = c .before .before in
+    let r = c .before .before .before in
     let t = r .before .before .before in
     let at = t .before .before in
     let most = at .before .block-shift .result in
@@ -134,12 +146,11 @@ loop-again c =
     let m : anyOf (overlaps (getD s j noSlot)) (drop (j + 1) s) ≡ false =
     ap (λ x. anyOf (overlaps x) (drop (j + 1) s)) (sym is) ∙ denies-true (c .before .shared-overlaps-none .ensures) (not-false _ (c .if2 .left)) in
     let b : r .bucket .result ≡ bucketOf most (getD s j noSlot .owner) (getD s j noSlot .page) =
-    r .bucket .ensures ∙ ap (λ x. bucketOf most (x .owner) (x .page)) is in
-    let small : r .bucket .result < length (at .loop .seen) = rw (at .loop .inv .1, b) (bucket-small _ _ _) in (
+    r .bucket .ensures ∙ ap (λ x. bucketOf most (x .owner) (x .page)) is in (
       omega (arith, at .loop .inv .0),
       simp length-set (at .loop .inv .1),
       pair-pass noSlot s j overlaps (within t) m ∙ rest t,
-      mark-live most (at .loop .seen) s j (within t) (later t) _ b small,
+      mark-live most (at .loop .seen) (at .before .before .before .before .args .mark) s j (within t) (later t) _ b (inside r),
     )
 
 loop-less-2 : tie.Need-loop-less-2 Inv-loop μ-loop
@@ -155,8 +166,11 @@ loop-again-2 c =
       omega (arith, at .loop .inv .0),
       at .loop .inv .1,
       pair-pass noSlot s j overlaps (within t) (empty-overlaps (getD s j noSlot) (drop (j + 1) s) dead) ∙ rest t,
-      mark-empty _ (at .loop .seen) s j (within t) (later t) dead,
+      mark-empty _ (at .loop .seen) _ s j (within t) (later t) dead,
     )
+
+same-length-2 : tie.Need-same-length-2 Inv-loop μ-loop
+same-length-2 c = c .before .loop .inv .1 ∙ sym (c .before .before .before .before .before .pre .2)
 
 returns-2 : tie.Need-returns-2 Inv-loop μ-loop
 returns-2 c =
@@ -171,19 +185,20 @@ overlap-free-spec =
     (tie.spec
     Inv-loop
     μ-loop
-    code-bound-requires
     block-shift-requires
     loop-holds
     sub-i
     slot-at-requires
     bucket-requires
     add-shared-overlaps-none
-    array-read-shared-overlaps-none
+    slice-read-shared-overlaps-none
     shared-overlaps-none-requires
+    same-length
     returns
-    array-write-seen
+    slice-write-seen
     loop-less
     loop-again
     loop-less-2
     loop-again-2
+    same-length-2
     returns-2)

@@ -1,84 +1,51 @@
--- `tlb_sound::side_sound` meets its contract. The invariant: all slots are sound exactly where those from i on are.
-use Prim.Native.Nat.{_≤_, _-_}
-use mathlib.Core.Path.{_≡_, refl, sym, ap, _∙_}
-use mathlib.Core.Bool.{true, false}
-use native.Mathlib.Omega.{arith}
+-- `tlb_sound::side_sound` meets its contract.
+use Prim.Native.Nat.{_/_, _^_}
+use mathlib.Core.Path.{_≡_, sym, ap, _∙_}
+use mathlib.Core.Bool.{true}
 use borrow.Author.Needs.{needs}
 use borrow.Author.Tests.{not-true, not-false}
-use lib.ListN.{drop}
 use Rattle.laws.specs.Tests.{allOf}
-use Rattle.laws.proofs.Walks.{all-fail, all-pass, all-end}
-use Rattle.machine.specs.Slots.{slotsOf, noSlot}
+use Rattle.machine.specs.Slots.{slotsOf}
 use Rattle.machine.specs.Sound.{slotSound, sideSound}
-use Rattle.machine.proofs.Slots.{slots-length}
+use Rattle.tlb_sound.proofs.Digests.{none-overlap, largest-bound}
 use Rattle.tlb_sound.proofs.side_sound.Statement.{statement}
 use Rattle.tlb_sound.proofs.side_sound.Tie as tie
 
-abbrev Inv-loop : tie.InvT-loop
-Inv-loop slots n i₀ i = (i ≤ n) × (allOf slotSound (slotsOf slots) ≡ allOf slotSound (drop i (slotsOf slots)))
+digest-of-requires : tie.Need-digest-of-requires
+digest-of-requires c κs = search needs
 
-abbrev μ-loop : tie.MeasureT-loop
-μ-loop slots n i₀ i = n - i
+slots-sound-requires : tie.Need-slots-sound-requires
+slots-sound-requires c κs = c .digest-of .ensures
 
-loop-holds : tie.Need-loop-holds Inv-loop μ-loop
-loop-holds c = (search needs, refl)
-
-slot-at-requires : tie.Need-slot-at-requires Inv-loop μ-loop
-slot-at-requires c κs = omega arith
-
-slot-sound-requires : tie.Need-slot-sound-requires Inv-loop μ-loop
-slot-sound-requires c κs = search needs
-
-returns : tie.Need-returns Inv-loop μ-loop
+returns : tie.Need-returns
 unfolding sideSound
-returns c =
-    let r = c .before .slot-sound in
-    let at = c .before .before .before .before in
-    let l = at .before .before .args .slots .now in
-    let h = ap slotSound (sym (c .before .before .slot-at .ensures)) ∙ sym (r .ensures) ∙ not-true _ (c .if1 .taken) in
-    let f : allOf slotSound (slotsOf l) ≡ false = at .loop .inv .1 ∙ all-fail noSlot (slotsOf l) (at .loop .i) slotSound (omega (arith, slots-length l)) h in
-    rw f
+returns c = rw (sym (c .before .slots-sound .ensures) ∙ not-true _ (c .if1 .taken))
 
-add-i : tie.Need-add-i Inv-loop μ-loop
-add-i c = omega arith
+-- each slot is sound by itself
+slots-sound : (c : tie.Else1) → allOf slotSound (slotsOf (c .before .before .before .before .before .args .slots .now)) ≡ true
+slots-sound c = sym (c .before .slots-sound .ensures) ∙ not-false _ (c .if1 .left)
 
-loop-less : tie.Need-loop-less Inv-loop μ-loop
-loop-less c = omega arith
-
-loop-again : tie.Need-loop-again Inv-loop μ-loop
-loop-again c =
-    let r = c .before .slot-sound in
-    let at = c .before .before .before .before in
-    let l = at .before .before .args .slots .now in
-    let h = ap slotSound (sym (c .before .before .slot-at .ensures)) ∙ sym (r .ensures) ∙ not-false _ (c .if1 .left) in
-    (omega arith, at .loop .inv .1 ∙ all-pass noSlot (slotsOf l) (at .loop .i) slotSound (omega (arith, slots-length l)) h)
-
--- past the last slot: all are sound
-all-sound : (c : tie.After-loop Inv-loop μ-loop) → allOf slotSound (slotsOf (c .before .before .before .args .slots .now)) ≡ true
-all-sound c =
-    let at = c .before in
-    let l = at .before .before .args .slots .now in
-    at .loop .inv .1 ∙ all-end noSlot (slotsOf l) (at .loop .i) slotSound (omega (arith, slots-length l))
-
-overlap-free-requires : tie.Need-overlap-free-requires Inv-loop μ-loop
-overlap-free-requires c κs = all-sound c
-
-returns-2 : tie.Need-returns-2 Inv-loop μ-loop
+returns-2 : tie.Need-returns-2
 unfolding sideSound
-returns-2 c = c .overlap-free .ensures ∙ rw (all-sound (c .before))
+returns-2 c =
+    let sound = c .before .before in
+    let d = sound .before .before .digest-of .ensures in
+    rw (slots-sound sound) (sym (none-overlap _ (ap (λ e. e .words / 2 ^ 63) (sym d) ∙ c .if2 .taken)))
+
+overlap-free-requires : tie.Need-overlap-free-requires
+overlap-free-requires c κs =
+    let sound = c .before .before .before .before in
+    let d = sound .before .before .digest-of .ensures in
+    (slots-sound sound, rw d (largest-bound _), sound .before .before .before .before .before .pre)
+
+same-length : tie.Need-same-length
+same-length c = search needs
+
+returns-3 : tie.Need-returns-3
+unfolding sideSound
+returns-3 c =
+    let all = c .before .before in
+    all .overlap-free .ensures ∙ rw (slots-sound (all .before .before .before .before .before))
 
 pub side-sound-spec : {M : Type 1} → statement M
-side-sound-spec =
-    tie.close
-    (tie.spec
-    Inv-loop
-    μ-loop
-    loop-holds
-    slot-at-requires
-    slot-sound-requires
-    returns
-    add-i
-    loop-less
-    loop-again
-    overlap-free-requires
-    returns-2)
+side-sound-spec = tie.close (tie.spec digest-of-requires slots-sound-requires returns returns-2 overlap-free-requires same-length returns-3)

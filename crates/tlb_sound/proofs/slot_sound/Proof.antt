@@ -7,7 +7,7 @@ use Rattle.tlb_sound.proofs.slot_sound.Statement.{statement}
 use Rattle.tlb_sound.proofs.slot_sound.Tie as tie
 
 live-sound-requires : tie.Need-live-sound-requires
-live-sound-requires c κs = search needs
+live-sound-requires c κs = (eq-eqb _ _ (c .if1 .taken), c .before .before .pre)
 
 returns : tie.Need-returns
 unfolding slotSound

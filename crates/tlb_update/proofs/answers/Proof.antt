@@ -1,29 +1,33 @@
--- `tlb_update::answers` meets its contract.
-use mathlib.Core.Path.{_≡_, sym, _∙_}
-use mathlib.Core.Bool.{_&&_, and-assoc}
-use borrow.Author.Tests.{not-true, not-false}
-use Rattle.machine.specs.Slots.{isLive, keyAddress, agrees, holds, answersTo}
+-- `tlb_update::answers` meets its contract: the owner, then the page, then bit 63.
+use Prim.Native.Nat.{ℕ}
+use mathlib.Core.Path.{_≡_, ap, sym, _∙_}
+use mathlib.Core.Bool.{Bool, and-true}
+use lib.Dec.{eqb}
 use borrow.Author.Needs.{needs}
+use borrow.Author.Tests.{eq-eqb, ne-eqb}
+use Rattle.laws.proofs.Bools.{and-no}
+use Rattle.machine.specs.Pages.{pageStart}
+use Rattle.machine.specs.Slots.{isLive, sizeCode, keyAddress, agrees, holds, answersTo}
 use Rattle.tlb_update.proofs.answers.Statement.{statement}
 use Rattle.tlb_update.proofs.answers.Tie as tie
 
 key-owner-requires : tie.Need-key-owner-requires
 key-owner-requires c κs = search needs
 
-owned-by-requires : tie.Need-owned-by-requires
-owned-by-requires c κs = search needs
+-- whose key it is
+owned : (c : tie.After-key-owner) {b : Bool} → eqb (c .before .args .x .owner) (c .key-owner .result) ≡ b → agrees (c .before .args .key) (c .before .args .x) ≡ b
+owned c e = ap (λ (n : ℕ). eqb (c .before .args .x .owner) n) (sym (c .key-owner .ensures)) ∙ e
 
--- the owner and then the page
-asked : (c : tie.After-owned-by) →
-    let a = c .before .before .args in
-    answersTo (a .key) (a .x) ≡ (c .owned-by .result && holds (a .x) (keyAddress (a .key)))
-unfolding answersTo
-asked c =
-    let a = c .before .before .args in
-    sym (and-assoc (isLive (a .x)) (agrees (a .key) (a .x)) _) ∙ rw (← (c .before .key-owner .ensures), ← (c .owned-by .ensures))
+-- whether its page holds the address
+held : (c : tie.After-page-start) {b : Bool} → (let s = c .before .before .before .before .before .before in
+    eqb (c .page-start .result) (s .args .x .page) ≡ b → holds (s .args .x) (keyAddress (s .args .key)) ≡ b)
+held c e =
+    let s = c .before .before .before .before .before .before in
+    ap (λ (n : ℕ). eqb n (s .args .x .page)) (sym (c .page-start .ensures ∙ ap (pageStart (sizeCode (s .args .x))) (c .before .key-address .ensures))) ∙ e
 
 returns : tie.Need-returns
-returns c = sym (asked (c .before) ∙ rw (not-true (c .before .owned-by .result) (c .if1 .taken)))
+unfolding answersTo
+returns c = sym (rw (owned (c .before .before) (ne-eqb _ _ (c .if1 .taken))) (and-no (isLive (c .before .before .before .args .x))))
 
 key-address-requires : tie.Need-key-address-requires
 key-address-requires c κs = search needs
@@ -32,17 +36,32 @@ page-start-requires : tie.Need-page-start-requires
 page-start-requires c κs = search needs
 
 returns-2 : tie.Need-returns-2
+unfolding answersTo
 returns-2 c =
-    let at = c .before .before .before .before in
-    sym (asked (at .before) ∙ rw (not-false (at .before .owned-by .result) (at .if1 .left), ← (c .before .before .key-address .ensures), ← (c .before .page-start .ensures)))
+    let page = c .before .before in
+    let at = page .before .before .before in
+    let owner = at .before .before in
+    sym (rw (owned owner (eq-eqb _ _ (at .if1 .left)), held page (ne-eqb _ _ (c .if2 .taken))) (and-no (isLive (owner .before .args .x))))
+
+is-live-requires : tie.Need-is-live-requires
+is-live-requires c κs = search needs
+
+returns-3 : tie.Need-returns-3
+unfolding answersTo
+returns-3 c =
+    let page = c .before .before .before in
+    let at = page .before .before .before in
+    let owner = at .before .before in
+    c .is-live .ensures ∙ sym (rw (owned owner (eq-eqb _ _ (at .if1 .left)), held page (eq-eqb _ _ (c .before .if2 .left))) (and-true (isLive (owner .before .args .x))))
 
 pub answers-spec : {M : Type 1} → statement M
 answers-spec =
     tie.close
     (tie.spec
     key-owner-requires
-    owned-by-requires
     returns
     key-address-requires
     page-start-requires
-    returns-2)
+    returns-2
+    is-live-requires
+    returns-3)

@@ -41,7 +41,12 @@ returns-4 : tie.Need-returns-4
 returns-4 c = rw (c .before .match .keys4)
 
 returns-5 : tie.Need-returns-5
-returns-5 c = let no = c .match .rest in simp (ne-eqb _ _ (no .0 .0 .0 .1), ne-eqb _ _ (no .0 .0 .1), ne-eqb _ _ (no .0 .1), ne-eqb _ _ (no .1))
+returns-5 c = rw (c .match .keys5)
+
+returns-6 : tie.Need-returns-6
+returns-6 c =
+    let no = c .match .rest in
+    simp (ne-eqb _ _ (no .0 .0 .0 .0 .1), ne-eqb _ _ (no .0 .0 .0 .1), ne-eqb _ _ (no .0 .0 .1), ne-eqb _ _ (no .0 .1), ne-eqb _ _ (no .1))
 
 pub short-command-spec : {M : Type 1} → statement M
 short-command-spec =
@@ -58,4 +63,5 @@ short-command-spec =
     returns-2
     returns-3
     returns-4
-    returns-5)
+    returns-5
+    returns-6)

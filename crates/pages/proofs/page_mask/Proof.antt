@@ -1,8 +1,8 @@
--- `tlb_sound::page_mask` meets its contract, arm by arm.
+-- `pages::page_mask` meets its contract, arm by arm.
 use borrow.Author.Tests.{ne-eqb}
 use Rattle.machine.specs.Pages.{pageShift}
-use Rattle.tlb_sound.proofs.page_mask.Statement.{statement}
-use Rattle.tlb_sound.proofs.page_mask.Tie as tie
+use Rattle.pages.proofs.page_mask.Statement.{statement}
+use Rattle.pages.proofs.page_mask.Tie as tie
 
 returns : tie.Need-returns
 unfolding pageShift

@@ -1,0 +1,96 @@
+-- `tlb::skip_four` meets its contract.
+use Prim.Native.Nat.{ℕ, _+_, _*_, _≤_}
+use mathlib.Core.Path.{_≡_, refl, sym, _∙_}
+use mathlib.Core.Bool.{false}
+use mathlib.Core.List.{List}
+use native.Mathlib.Omega.{arith}
+use lib.ListN.{length}
+use Rattle.laws.proofs.Walks.{first-pass}
+use Rattle.machine.specs.Slots.{slotsOf, slotOf, noSlot}
+use Rattle.machine.proofs.Slots.{slots-length}
+use Rattle.tlb.specs.Tables.{answersBy, Skips}
+use Rattle.tlb.proofs.skip_four.Statement.{statement}
+use Rattle.tlb.proofs.skip_four.Tie as tie
+
+-- slots up to i are skipped; then slot i is, where it does not answer
+more : (owner : ℕ) (start l : List ℕ) (from i j : ℕ) → i * 4 + 4 ≤ length l → j ≡ i + 1
+    → Skips owner start l from i → answersBy owner start (slotOf l i) ≡ false → Skips owner start l from j
+more owner start l from i j h e w n = rw e (w ∙ first-pass noSlot (slotsOf l) i (answersBy owner start) (omega (arith, slots-length l)) n)
+
+answers-at-requires : tie.Need-answers-at-requires
+answers-at-requires c κs = omega arith
+
+returns : tie.Need-returns
+returns c =
+    let i = c .before .before .before .args .from in
+    let e : i + 0 ≡ i = omega arith in
+    (omega arith, rw e)
+
+past-one : (c : tie.Else1) → let a = c .before .before .before .args in Skips (a .owner) (a .start .now) (a .slots .now) (a .from) (a .from + 1)
+past-one c =
+    let a = c .before .before .before .args in
+    more _ _ _ (a .from) (a .from) _ (omega arith) refl refl (sym (c .before .answers-at .ensures) ∙ c .if1 .left)
+
+add-answers-at : tie.Need-add-answers-at
+add-answers-at c = omega arith
+
+answers-at-requires-2 : tie.Need-answers-at-requires-2
+answers-at-requires-2 c κs = omega arith
+
+returns-2 : tie.Need-returns-2
+returns-2 c = (omega arith, past-one (c .before .before))
+
+past-two : (c : tie.Else2) → let a = c .before .before .before .before .before .args in Skips (a .owner) (a .start .now) (a .slots .now) (a .from) (a .from + 2)
+past-two c =
+    let one = c .before .before in
+    let i = one .before .before .before .args .from in
+    more _ _ _ i (i + 1) _ (omega arith) (omega arith) (past-one one) (sym (c .before .answers-at2 .ensures) ∙ c .if2 .left)
+
+add-answers-at-2 : tie.Need-add-answers-at-2
+add-answers-at-2 c = omega arith
+
+answers-at-requires-3 : tie.Need-answers-at-requires-3
+answers-at-requires-3 c κs = omega arith
+
+returns-3 : tie.Need-returns-3
+returns-3 c = (omega arith, past-two (c .before .before))
+
+past-three : (c : tie.Else3) →
+    let a = c .before .before .before .before .before .before .before .args in
+    Skips (a .owner) (a .start .now) (a .slots .now) (a .from) (a .from + 3)
+past-three c =
+    let two = c .before .before in
+    let i = two .before .before .before .before .before .args .from in
+    more _ _ _ i (i + 2) _ (omega arith) (omega arith) (past-two two) (sym (c .before .answers-at3 .ensures) ∙ c .if3 .left)
+
+add-answers-at-3 : tie.Need-add-answers-at-3
+add-answers-at-3 c = omega arith
+
+answers-at-requires-4 : tie.Need-answers-at-requires-4
+answers-at-requires-4 c κs = omega arith
+
+returns-4 : tie.Need-returns-4
+returns-4 c = (omega arith, past-three (c .before .before))
+
+returns-5 : tie.Need-returns-5
+returns-5 c =
+    let three = c .before .before in
+    let i = three .before .before .before .before .before .before .before .args .from in
+    (omega arith, more _ _ _ i (i + 3) _ (omega arith) (omega arith) (past-three three) (sym (c .before .answers-at4 .ensures) ∙ c .if4 .left))
+
+pub skip-four-spec : {M : Type 1} → statement M
+skip-four-spec =
+    tie.close
+    (tie.spec
+    answers-at-requires
+    returns
+    add-answers-at
+    answers-at-requires-2
+    returns-2
+    add-answers-at-2
+    answers-at-requires-3
+    returns-3
+    add-answers-at-3
+    answers-at-requires-4
+    returns-4
+    returns-5)

@@ -1,0 +1,20 @@
+-- `tlb_sound::gather` meets its contract.
+use Prim.Native.Nat.{_^_}
+use native.Mathlib.Omega.{arith}
+use borrow.Author.Needs.{needs}
+use borrow.Author.Tests.{lt-ltb}
+use Rattle.tlb_sound.specs.Digests.{reach}
+use Rattle.tlb_sound.proofs.gather.Statement.{statement}
+use Rattle.tlb_sound.proofs.gather.Tie as tie
+
+wrapping-add-u64-requires : tie.Need-wrapping-add-u64-requires
+wrapping-add-u64-requires c κs = search needs
+
+returns : tie.Need-returns
+unfolding reach
+returns c =
+    let sum = c .before .before .before .before .before .before .before .before .before in
+    rw (sum .wrapping-add-u64 .ensures, lt-ltb (sum .before .args .x .page) (2 ^ 64) (omega arith))
+
+pub gather-spec : {M : Type 1} → statement M
+gather-spec = tie.close (tie.spec wrapping-add-u64-requires returns)
