@@ -202,6 +202,7 @@ uint8_t t1mmu_reset(uint64_t *state, size_t words);
  * counted nor taken, and earlier ones keep their effect. A refused command is answered and stepped over, and changes nothing in the state.
  * A state that is not sound, of a wrong length too, stops the run with 1 at once: state and output stay as they are.
  * Output behind the answers keeps its bytes. A sound state is sound after every run. (specs: runOf)
+ * Whether the state is sound is asked once a run, at the cost of some two dozen hits: give a run many commands where you can.
  */
 struct t1mmu_report t1mmu_run(uint64_t *state, size_t words, const uint8_t *input, size_t length, uint8_t *output, size_t room);
 

@@ -228,7 +228,7 @@ fn states() -> Vec<Work> {
         soundness("full sides, real and virtual", 0.25, state(Population::RealAndVirtual)),
         soundness("full sides, both halves", 0.25, state(Population::BothHalves)),
         // as after a reset
-        soundness("sides, empty", 0.25, hyperprivileged(&[0; 640])),
+        soundness("sides, empty", 1.0, hyperprivileged(&[0; 640])),
     ]
 }
 

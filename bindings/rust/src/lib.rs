@@ -129,6 +129,7 @@ impl Unit {
     }
 
     /// Takes command after command from the input and writes an answer of 24 bytes for each; output behind them keeps its bytes.
+    /// Soundness is asked once a run, at the cost of some two dozen hits: give a run many commands where you can.
     pub fn run(&mut self, input: &[u8], output: &mut [u8]) -> Report {
         // SAFETY: three slices, so readable, the mutable ones ours alone, and none overlaps another.
         let run = unsafe {
