@@ -66,8 +66,7 @@ pub fn slot_of(state: &[u64], side: u8, i: usize) -> Slot
     tlb::slot_at(&state[start..end], i)
 }
 
-// Where a key's hint is kept: the owner among the bits of the page's number, and a multiplier that keeps near and far pages of one guest apart,
-// and the same pages of many.
+// Where a key's hint is kept: the owner among the bits of the page's number, spread by a multiplier. Only time depends on it.
 fn hint_place(side: u8, key: Key) -> usize
     ensures { λ r. ⌜ r < 256 ⌝ }
 {
