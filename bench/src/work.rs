@@ -53,6 +53,8 @@ pub enum Population {
     Worst,
     /// any partition, context below 100 and 8 KB page of the lower half; that no two are the same shows in the run, which is not stopped
     RandomPages,
+    /// one guest, 8 KB pages anywhere in the lower half: some share the place of their hint
+    Scattered,
     /// one guest, 8 KB pages side by side, every other one real
     RealAndVirtual,
     /// one guest, 8 KB pages of the lower and the upper half in turn
@@ -70,6 +72,7 @@ fn entry(population: Population, q: u64, r: &mut Random) -> [u64; 3] {
         Population::Worst if q == 0 => [virtual_of(0), 0x8000_0000, word | 5],
         Population::Worst => [virtual_of(0), TAG + q * 0x2000, word],
         Population::RandomPages => [(r.below(8) << 14 | r.below(100)) as u64, (r.below(1 << 34) << 13) as u64, word],
+        Population::Scattered => [virtual_of(0), (r.below(1 << 34) << 13) as u64, word],
         Population::RealAndVirtual => [[virtual_of(0), REAL][q as usize % 2], TAG + q * 0x2000, word],
         Population::BothHalves => [virtual_of(0), [TAG, UPPER][q as usize % 2] + q * 0x2000, word],
     }
@@ -159,6 +162,7 @@ fn lookups() -> Vec<Work> {
         long("hit, first slot", 0.7, &one, move |i| load(0, first + 8 * (i as u64 % 1024))),
         long_hits("hit, random slot, one guest", 0.7, one.clone()),
         long_hits("hit, random slot, one guest, four page sizes", 0.7, state(Population::FourSizes)),
+        long_hits("hit, random slot, one guest, scattered pages", 0.7, state(Population::Scattered)),
         long_hits("hit, random slot, eight partitions", 1.0, eight.clone()),
         long("miss, one guest", 0.7, &one, |i| load(0, 0x7000_0000 + 0x2000 * (i as u64 % 512))),
         long("miss, eight partitions", 1.0, &eight, |i| load(i as u64 % 4, 0x7000_0000 + 0x2000 * (i as u64 % 512))),

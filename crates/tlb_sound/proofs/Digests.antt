@@ -154,7 +154,7 @@ left-zero a b e = omega arith
 right-zero : (a b : ℕ) → a + b ≡ 0 → b ≡ 0
 right-zero a b e = omega arith
 
-pub fits : (d : Digest) → fieldsFit d ≡ true → Fits d
+fits : (d : Digest) → fieldsFit d ≡ true → Fits d
 unfolding excess
 fits d t =
     let after = right-zero _ _ (eqb-true (excess d) 0 t) in

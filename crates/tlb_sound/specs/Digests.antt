@@ -1,5 +1,5 @@
--- What all the slots of a side have, gathered in one pass, by which most sides are known to be sound. None of this is in what `side_sound`
--- promises.
+-- What all the slots of a side have, gathered in one pass, by which a side of virtual 8 KB pages is known to be sound slot by slot. None of
+-- this is in what `side_sound` promises.
 -- Assumes nothing.
 use Prim.Native.Nat.{ℕ, _+_, _-_, _/_, _%_, _^_}
 use mathlib.Core.List.{List, [], _∷_}
@@ -39,7 +39,7 @@ noDigest = record { owners = 0; pages = 0; words = 0; common = 2 ^ 64 - 1; flags
 abbrev pub digestOf : List Slot → Digest
 digestOf s = joinedAll noDigest s
 
--- the bits that no sound slot has: an owner's from 17 on, a page's out of range or below 8 KB, a word's 55:40, flags' from 2 on
+-- the bits that no sound slot has: an owner's from 17 on, a page's out of range or below 8 KB, a word's 55:40 and past 63, flags' from 2 on
 unfoldable pub excess : Digest → ℕ
 excess d = d .owners / 2 ^ 17 + (d .pages / 2 ^ 48 + (d .pages % 2 ^ 13 + (bits 40 16 (d .words) + (d .words / 2 ^ 64 + d .flags / 2 ^ 2))))
 
