@@ -41,7 +41,7 @@ fn translation_on(state: &[u64], a: Access) -> bool
     bit_of(enables, operands::access_side(a.kind) as u64) == 1
 }
 
-// The address used: with the mask on and mode 0 or 1, modulo 2^32.
+// The address used: with the mask on, modes 0 and 1 keep only its low 32 bits.
 pub fn used_address(state: &[u64], strand: u8, address: VirtualAddress) -> VirtualAddress
     requires { ⌜ (length (now state) ≡ stateWords counts) × (strand < 4) ⌝ }
     ensures { λ r. ⌜ r ≡ addressUsed (stateOf counts (now (state .entry)) .registers) strand address ⌝ }
@@ -65,7 +65,7 @@ fn exception_of(kind: u8, fault: u64) -> Trap
     Trap::DataAccessException(fault)
 }
 
-// Tag access gets the selected context, or 0 where translation is off for the side.
+// The context that a trap leaves in tag access: the one selected; 0 while translation is off.
 fn tag_written(state: &[u64], a: Access) -> Tag
     requires { ⌜ (length (now state) ≡ stateWords counts) × (a .strand < 4)
         × (registersSound (stateOf counts (now state) .registers) ≡ true) ⌝ }
@@ -98,7 +98,7 @@ fn key_of_access(state: &[u64], a: Access) -> Key
     operands::key_for(!on, partition, context, a.used.0)
 }
 
-// Whether the address is a multiple of the size.
+// Step 1: whether the address is aligned.
 fn aligned(used: VirtualAddress, size: u8) -> bool
     requires { ⌜ size < 64 ⌝ }
     ensures { λ r. ⌜ r ≡ eqb (used .0 % 2 ^ size) 0 ⌝ }
@@ -106,7 +106,7 @@ fn aligned(used: VirtualAddress, size: u8) -> bool
     used.0 % (1 << size as u64) == 0
 }
 
-// Mode 0, data, nucleus.
+// Step 2: a user asks for data of the nucleus.
 fn is_user_nucleus(mode: u64, kind: u8, selector: u8) -> bool
     ensures { λ r. ⌜ r ≡ (eqb mode 0 && (not (eqb kind 0) && eqb selector 2)) ⌝ }
 {
@@ -204,7 +204,7 @@ fn fault_of(mode: u64, kind: u8, word: u64) -> u64
     privileged + side_effect + uncached + no_fault_only
 }
 
-// Kind 2 or 3 and w is 0.
+// Step 7: a store or an atomic on a word without w.
 fn is_write_denied(kind: u8, word: u64) -> bool
     ensures { λ r. ⌜ r ≡ ((eqb kind 2 || eqb kind 3) && eqb (bits 6 1 word) 0) ⌝ }
 {
@@ -242,7 +242,7 @@ fn write_side(state: &mut [u64], a: Access, base: u8, value: u64)
     state::write_register(state, a.strand, base + operands::access_side(a.kind), value);
 }
 
-// Every trap writes registers 22 and 24.
+// The two registers that every trap sets: fault address (22) and fault (24).
 fn write_fault(state: &mut [u64], a: Access, trap: Trap)
     requires { ⌜ (length (now state) ≡ stateWords counts) × (a .strand < 4) × FaultFits trap ⌝ }
     ensures { λ r. ⌜ now (state .exit) ≡ encode (withRegisters (stateOf counts (now (state .entry)))
@@ -296,7 +296,7 @@ fn take_tagged(state: &mut [u64], a: Access, trap: Trap) -> Answer
     take_trap(state, a, trap, tag)
 }
 
-// A miss traps and marks nothing.
+// A miss traps and sets no used bit.
 fn settle_miss(state: &mut [u64], a: Access) -> Answer
     requires { ⌜ (length (now state) ≡ stateWords counts) × (a .strand < 4)
         × (registersSound (stateOf counts (now state) .registers) ≡ true) ⌝ }
@@ -307,7 +307,7 @@ fn settle_miss(state: &mut [u64], a: Access) -> Answer
     take_tagged(state, a, trap)
 }
 
-// A hit is marked and judged.
+// A hit has its used bit set, and is judged.
 fn settle_hit(state: &mut [u64], a: Access, i: usize) -> Answer
     requires { ⌜ (length (now state) ≡ stateWords counts) × (a .strand < 4) × (i < 64)
         × (registersSound (stateOf counts (now state) .registers) ≡ true) ⌝ }

@@ -102,7 +102,7 @@ fn print_side(slots: &mut [u64])
     io::write_all(1, b"sound\n");
 }
 
-// "An 8 KB page at 0x402000, then 64 KB at 0x400000, same context: the first is gone; under another context both live."
+// Document 01's seventh example: an 8 KB page, and then the 64 KB page around it, each in the context given.
 fn overlap(first: u64, second: u64) {
     let mut side = [0u64; 256];
     let slots: &mut [u64] = &mut side;
@@ -172,7 +172,7 @@ fn insertions(slots: &mut [u64], state: &mut [u64])
     }
 }
 
-// "64 unlocked insertions into an empty side, then two more, none overlapping: the 65th displaces slot 0, the 66th slot 1."
+// Document 01's eighth example: a side is filled with 64 unlocked entries, and two more displace those of slots 0 and 1.
 fn displacement() {
     let mut side = [0u64; 256];
     let slots: &mut [u64] = &mut side;

@@ -29,42 +29,42 @@ use Rattle.machine.specs.declared.Judged.the-variants as judged
 use Rattle.machine.specs.declared.Answer.{Answer}
 use Rattle.machine.specs.declared.Answer.the-variants as answer
 
--- "With the mask 1 and mode 0 or 1 the address is first taken modulo 2^32."
+-- before step 1: with the address mask on, modes 0 and 1 use only the low 32 bits of an address
 abbrev pub addressUsed : List ℕ → ℕ → VirtualAddress → VirtualAddress
 addressUsed file strand a = record { 0 = cond (eqb (addressMask file strand) 1 && ltb (mode file strand) 2) (a .0 % 2 ^ 32) (a .0) }
 
 -- ---- prepare
--- 0x08 on a fetch, 0x30 on data
+-- the trap of steps 4 and 6: 0x08 for a fetch, 0x30 for data
 abbrev pub exception : ℕ → ℕ → Trap
 exception kind fault = cond (eqb kind 0) (trap.InstructionAccessException fault) (trap.DataAccessException fault)
 
--- "the selected context, or context 0 when translation is off for the side"
+-- the context that a trap leaves in tag access ("Access", last paragraph): the one selected; 0 while translation is off
 abbrev pub trapTag : List ℕ → Access → Tag
 trapTag file a = effect.Written (cond (translates file (a .strand) (kindSide (a .kind))) (selected file (a .strand) (a .selector)) 0)
 
--- "cp is 1 and e 0 when bit 39 is 0, else cp 0 and e 1; ie 0"
+-- step 3: the attributes of a bypass go by bit 39: cp alone (1) where it is 0, e alone (2) where it is 1
 abbrev pub bypassTo : VirtualAddress → Translation
 bypassTo a = record { address = bypassed a; attributes = cond (eqb (bits 39 1 (a .0)) 0) 1 2 }
 
--- "virtual if translation is on for the side, else real (context not compared)"
+-- step 5: with translation off the key is real, and asks for no context
 abbrev pub lookupKey : List ℕ → Access → Key
 lookupKey file a =
     keyOf (not (translates file (a .strand) (kindSide (a .kind)))) (partition file (a .strand)) (selected file (a .strand) (a .selector)) (a .used .0)
 
 unfoldable pub prepare : List ℕ → Access → Prepared
 prepare file a =
-    -- 1. "Address not a multiple of the size: trap 0x34."
+    -- 1. an address that is not aligned
     cond (not (eqb (a .used .0 % 2 ^ a .size) 0)) (prepared.Stopped trap.AddressNotAligned effect.Kept)
-    -- 2. "Mode 0, data, nucleus: 0x37."
+    -- 2. a user asks for data of the nucleus
     (cond (eqb (mode file (a .strand)) 0 && (not (eqb (a .kind) 0) && eqb (a .selector) 2)) (prepared.Stopped trap.PrivilegedAction effect.Kept)
-    -- 3. "Mode 2: bypass."
+    -- 3. mode 2 does not translate
     (cond (eqb (mode file (a .strand)) 2) (prepared.Bypass (bypassTo (a .used)))
-    -- 4. "Out of range: 0x08 on a fetch, 0x30 on data, fault type 0x20."
+    -- 4. an address out of range has fault type 0x20
     (cond (not (inRange (a .used .0))) (prepared.Stopped (exception (a .kind) 0x20) (trapTag file a))
-    -- 5. "Lookup"
+    -- 5. all others look up
     (prepared.Lookup (lookupKey file a)))))
 
--- 5. "None: 0x64 fetch, 0x68 data; real 0x3E, 0x3F."
+-- step 5 with no entry found: the trap goes by the kind of address looked up and by the side
 abbrev pub missTrap : List ℕ → Access → Trap
 missTrap file a =
     cond (translates file (a .strand) (kindSide (a .kind)))
@@ -72,7 +72,7 @@ missTrap file a =
     (cond (eqb (a .kind) 0) trap.InstructionRealMiss trap.DataRealMiss)
 
 -- ---- judge
--- 6. "the sum of: 0x01 p is 1 in mode 0; 0x02 kind 4 and e is 1; 0x04 kind 3 and cp is 0; 0x10 nfo is 1 and kind is not 4"
+-- step 6, line by line: p against users; e against nonfaulting loads; cp clear against atomics; nfo against all but nonfaulting loads
 unfoldable pub faultType : ℕ → ℕ → ℕ → ℕ
 faultType mode kind word =
     cond (eqb (bits 8 1 word) 1 && eqb mode 0) 0x01 0
@@ -80,22 +80,22 @@ faultType mode kind word =
     + cond (eqb kind 3 && eqb (bits 10 1 word) 0) 0x04 0
     + cond (eqb (bits 62 1 word) 1 && not (eqb kind 4)) 0x10 0
 
--- "a = cp + 2·e + 4·ie"
+-- byte a of a physical answer ("The stream"): cp counts 1, e 2, ie 4
 abbrev pub attributesOf : ℕ → ℕ
 attributesOf word = bits 10 1 word + 2 * bits 11 1 word + 4 * bits 12 1 word
 
 unfoldable pub judge : List ℕ → Access → ℕ → Judged
 judge file a word =
     let fault : ℕ = faultType (mode file (a .strand)) (a .kind) word in
-    -- 6. "Not 0: 0x08 fetch, 0x30 data."
+    -- 6. any fault type stops the access
     cond (not (eqb fault 0)) (judged.Faulted (exception (a .kind) fault))
-    -- 7. "Kind 2 or 3 and w is 0: 0x6C."
+    -- 7. a store or an atomic needs w
     (cond ((eqb (a .kind) 2 || eqb (a .kind) 3) && eqb (bits 6 1 word) 0) (judged.Faulted trap.DataProtection)
-    -- 8. "word address rounded down to the page, plus the offset in it"
+    -- 8. the others get their physical address
     (judged.Translated (record { address = physicalAt word (a .used .0); attributes = attributesOf word })))
 
 -- ---- settle
--- the document's number and fault type of a trap
+-- the number that "Access" gives to a trap
 abbrev pub trapNumber : Trap → ℕ
 trapNumber (trap.InstructionAccessException fault) = 0x08
 trapNumber (trap.DataAccessException fault) = 0x30
@@ -107,7 +107,7 @@ trapNumber trap.InstructionMiss = 0x64
 trapNumber trap.DataMiss = 0x68
 trapNumber trap.DataProtection = 0x6C
 
--- "Fault type is 0 where none is named."
+-- and its fault type; only access exceptions carry one
 abbrev pub trapFault : Trap → ℕ
 trapFault (trap.InstructionAccessException fault) = fault
 trapFault (trap.DataAccessException fault) = fault
@@ -123,7 +123,7 @@ abbrev pub withTag : List ℕ → ℕ → ℕ → ℕ → Tag → List ℕ
 withTag file strand side address effect.Kept = file
 withTag file strand side address (effect.Written context) = withRegister file strand (tagNumber side) (tagOf address context)
 
--- "Every trap writes the side's registers 22 and 24; all but 0x34 and 0x37 write tag access"
+-- "Access", last paragraph: a trap sets fault address (22) and fault (24) of its side, and tag access where it is not kept
 unfoldable pub trapRegisters : List ℕ → Access → Trap → Tag → List ℕ
 trapRegisters file a t tag =
     let side : ℕ = kindSide (a .kind) in
@@ -151,7 +151,7 @@ abbrev pub settleJudged : State → Access → Judged → Stepped
 settleJudged u a (judged.Faulted t) = trapTo u a t (trapTag (u .registers) a)
 settleJudged u a (judged.Translated p) = stepped u (answer.Physical p)
 
--- "The found entry is marked." A miss marks nothing
+-- step 6: a hit has its used bit set (document 01: it is marked), whatever its word then says; a miss sets none
 abbrev pub settleFound : State → Access → Found → Stepped
 settleFound u a Nothing = trapTo u a (missTrap (u .registers) a) (trapTag (u .registers) a)
 settleFound u a (At i) =

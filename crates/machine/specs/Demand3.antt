@@ -46,7 +46,7 @@ Live e m = (i : ℕ) × (i < length m) × (getD m i e ≡ e)
 
 -- an insertion that 1 to 12 do not refuse: s are the places, m was live, e is new, b the unit's answer
 pub record InsertionSays (n : ℕ) (s : List Place) (m : List Entry) (e : Entry) (b : Bytes) : Type 0 where
-  -- it names a displaced entry exactly when the side was full, none overlapped and one at least was unlocked
+  -- it names a displaced entry just where every slot was taken, none overlapped, and an entry was unlocked
   pub displaced : (getD b 0 0 ≡ 4) ↔ ((length m ≡ n) × (howMany (overlap e) m ≡ 0) × (1 ≤ howMany unlocked m))
   -- the one named was live and unlocked, and is the one that the places pick
   pub named : getD b 0 0 ≡ 4 →
@@ -86,12 +86,12 @@ CommandsSay n u k (c ∷ cs) =
 -- ---- one run
 -- of bytes that are read as t
 pub record RunSays (n : Counts) (words : List ℕ) (k : Reference) (input output : Bytes) (t : Reading) : Type 0 where
-  -- "no run stops with 1"
+  -- each run finds its words sound
   pub sound : runOf n words input output .stop ≡ 1 → ⊥
   pub stop : runOf n words input output .stop ≡ t .stop
   pub taken : runOf n words input output .taken ≡ length input - length (t .rest)
   pub answered : runOf n words input output .answered ≡ length (t .commands)
-  -- the answers stand in front and are the ledger's; "Unwritten output keeps its bytes."
+  -- the answers stand in front and are the ledger's; behind them the output is as it was lent
   pub front : take (length (t .commands) * 24) (runOf n words input output .output) ≡ ledgerBytes n (stateOf n words) k (t .commands)
   pub past : drop (length (t .commands) * 24) (runOf n words input output .output) ≡ drop (length (t .commands) * 24) output
   pub commands : CommandsSay n (stateOf n words) k (t .commands)

@@ -30,23 +30,23 @@ abbrev pub load : ℕ → Access
 load address = record { strand = 0; kind = 1; selector = 0; size = 3; used = record { 0 = address } }
 
 pub record Starred : Type 0 where
-  -- "0x00007FFFFFFFFFFF in range, 0x0000800000000000 not, 0xFFFF7FFFFFFFFFFF not, 0xFFFF800000000000 in."
+  -- first example: the last address before the hole, the first and the last in it, the first behind it
   pub range : (inRange 0x0000_7FFF_FFFF_FFFF ≡ true) × (inRange 0x0000_8000_0000_0000 ≡ false)
       × (inRange 0xFFFF_7FFF_FFFF_FFFF ≡ false) × (inRange 0xFFFF_8000_0000_0000 ≡ true)
-  -- "Context 8191 accepted, 8192 gets 10."
+  -- second: the largest context is accepted, one more gets number 10
   pub accepted : (u : State) → verdict u (command.Write 0 1 8191) ≡ Passed
   pub refused : (u : State) → (r : Refusal) × (verdict u (command.Write 0 1 8192) ≡ Refused r) × (refusalNumber r ≡ 10)
-  -- "Code 3, word address 0x12402000, access 0x80401234: 0x12401234."
+  -- third: a 4 MB page whose word's address is not at a page start
   pub large : physicalAt 0x8000_0000_1240_2003 0x8040_1234 .0 ≡ 0x1240_1234
-  -- "User store, p 1, w 0: 0x30 type 0x01, not 0x6C."; bit 8 is p, and registers that are all zero are a user's
+  -- fourth: p stops a user's store before w does; bit 8 is p, bit 6 is w, and registers that are all zero are a user's
   pub privileged : (mode [] 0 ≡ 0) × (bits 8 1 0x8000_0000_0000_0100 ≡ 1) × (bits 6 1 0x8000_0000_0000_0100 ≡ 0)
       × ((t : Trap) × (judge [] (store 0) 0x8000_0000_0000_0100 ≡ judged.Faulted t) × (trapNumber t ≡ 0x30) × (trapFault t ≡ 0x01))
-  -- "Mode 2 load of 0x8000000010: same address, a = 2."
+  -- fifth: a bypass with bit 39 set keeps the address and answers e
   pub bypassed : (t : Translation) × (prepare resetRegisters (load 0x80_0000_0010) ≡ prepared.Bypass t) × (t .address .0 ≡ 0x80_0000_0010) × (t .attributes ≡ 2)
-  -- "TSB base 0x10000000, N 0, size code 0, address 0x402000: 0x10000010; N 1: 0x10002010."
+  -- sixth: the pointer of one page by a base with N 0, then by the same base with N 1
   pub pointers : (tsbPointer 0x1000_0000 0 0x40_2000 ≡ 0x1000_0010) × (tsbPointer 0x1000_0001 0 0x40_2000 ≡ 0x1000_2010)
 
--- ---- the printed run: "On these bytes (shown in hexadecimal) .. it prints each answer", five of them
+-- ---- the printed run: the bytes that "Examples" shows, and the five answers as bytes
 unfoldable pub given : Bytes
 given =
     0x01 ∷ 0 ∷ 4 ∷ 0 ∷ 0 ∷ 0 ∷ 0 ∷ 0 ∷ 0 ∷ 0 ∷ 3
@@ -63,7 +63,7 @@ printed =
     ∷ 0 ∷ 0 ∷ 0 ∷ 0 ∷ 0 ∷ 0 ∷ 0 ∷ 0 ∷ 0 ∷ 0 ∷ 0 ∷ 0 ∷ 0 ∷ 0 ∷ 0 ∷ 0 ∷ 0 ∷ 0 ∷ 0 ∷ 0 ∷ 0 ∷ 0 ∷ 0 ∷ 0
     ∷ 0x01 ∷ 0x01 ∷ 0 ∷ 0 ∷ 0 ∷ 0 ∷ 0 ∷ 0 ∷ 0 ∷ 0 ∷ 0 ∷ 0 ∷ 0 ∷ 0x08 ∷ 0 ∷ 0x08 ∷ 0 ∷ 0 ∷ 0 ∷ 0 ∷ 0 ∷ 0 ∷ 0 ∷ 0 ∷ []
 
--- from reset, with room for five answers and nothing more; "end 5 60 0"
+-- from reset, with room for five answers and nothing more; the three numbers are those of its line `end`
 unfoldable pub PrintedRun : Type 0
 PrintedRun =
     let o : Outcome = runOf counts (encode (reset counts)) given (replicate 120 0xFF) in

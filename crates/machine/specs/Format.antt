@@ -11,25 +11,18 @@ use Rattle.machine.specs.declared.Command.{Command}
 use Rattle.machine.specs.declared.Command.the-variants as command
 use Rattle.machine.specs.declared.Decoded.the-variants.{Known, Stop}
 
--- "A command is one byte and operands of fixed widths, big-endian, one byte each unless marked 8"
+-- a command's own byte, then its operands in order; one that "The stream" marks 8 takes eight bytes, highest first
 unfoldable pub encoded : Command → List ℕ
--- "0x01 write: strand, register, value 8."
 encoded (command.Write strand register value) = 0x01 ∷ strand ∷ register ∷ bigEndian 8 value
--- "0x02 insert: strand, side, flags (1 real, 2 locked), word 8."
+-- flags: 1 real, 2 locked
 encoded (command.Insert strand side flags word) = 0x02 ∷ strand ∷ side ∷ flags ∷ bigEndian 8 word
--- "0x03 demap page: strand, side, selector, flags (1 real), address 8."
+-- flags: 1 real
 encoded (command.DemapPage strand side selector flags address) = 0x03 ∷ strand ∷ side ∷ selector ∷ flags ∷ bigEndian 8 address
--- "0x04 demap context: strand, side, selector."
 encoded (command.DemapContext strand side selector) = 0x04 ∷ strand ∷ side ∷ selector ∷ []
--- "0x05 demap all: strand, side."
 encoded (command.DemapAll strand side) = 0x05 ∷ strand ∷ side ∷ []
--- "0x06 invalidate: side."
 encoded (command.Invalidate side) = 0x06 ∷ side ∷ []
--- "0x07 access: strand, kind, selector, size, address 8."
 encoded (command.Access strand kind selector size address) = 0x07 ∷ strand ∷ kind ∷ selector ∷ size ∷ bigEndian 8 (address .0)
--- "0x08 read: strand, register."
 encoded (command.Read strand register) = 0x08 ∷ strand ∷ register ∷ []
--- "0x09 pointers: strand, side."
 encoded (command.Pointers strand side) = 0x09 ∷ strand ∷ side ∷ []
 
 -- the operand marked 8 fits its eight bytes; an operand of one byte is written as it is
@@ -47,13 +40,13 @@ fits (command.Pointers strand side) = true
 -- ---- what a run takes
 -- of bytes, with room for answers: the commands that a run takes, the bytes that it leaves, and why it ends ("The ledger", second paragraph)
 pub data Reads : List ℕ → ℕ → List Command → List ℕ → ℕ → Type 0 where
-  -- "0 at the end of input"
+  -- 0: no byte is left
   end : {room : ℕ} → Reads [] room [] [] 0
-  -- "Command byte known? 2"
+  -- number 2: the byte is no command's
   unknown : {b room : ℕ} {r : List ℕ} → (ltb b 1 || ltb 9 b) ≡ true → Reads (b ∷ r) room [] (b ∷ r) 2
-  -- "All operands present? 3": a command cut off behind its first byte
+  -- number 3: a command cut off behind its first byte
   short : {room : ℕ} {q : List ℕ} (c : Command) (r : List ℕ) → encoded c ≡ q ++ r → 1 ≤ length q → 1 ≤ length r → Reads q room [] q 3
-  -- "24 output bytes left? 4"
+  -- number 4: a whole command, and room for less than an answer
   full : {room : ℕ} {s : List ℕ} (c : Command) (r : List ℕ) → fits c ≡ true → s ≡ encoded c ++ r → room < 24 → Reads s room [] s 4
   -- a command, and what is read behind it
   next : {room stop : ℕ} {s r rest : List ℕ} {cs : List Command} {c : Command} → fits c ≡ true → s ≡ encoded c ++ r → 24 ≤ room
@@ -75,7 +68,7 @@ Readable = (s : List ℕ) → ((i : ℕ) → getD s i 0 < 256) → (room : ℕ) 
 pub record Decodes : Type 0 where
   -- a command written there is the command read, of its width
   pub known : (p r : List ℕ) (c : Command) → fits c ≡ true → decodeAt (p ++ (encoded c ++ r)) (length p) ≡ Known c (length (encoded c))
-  -- "Command byte known? 2"
+  -- number 2: the byte is no command's
   pub unknown : (s : List ℕ) (at : ℕ) → (ltb (getD s at 0) 1 || ltb 9 (getD s at 0)) ≡ true → decodeAt s at ≡ Stop 2
-  -- "All operands present? 3": a command cut off after its first byte
+  -- number 3: a command cut off after its first byte
   pub short : (p q r : List ℕ) (c : Command) → encoded c ≡ q ++ r → 1 ≤ length q → 1 ≤ length r → decodeAt (p ++ q) (length p) ≡ Stop 3

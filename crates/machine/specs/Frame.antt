@@ -34,23 +34,23 @@ Lives u side e = LivesIn (sideOf u side) e
 
 -- the commands that may take e from a side, and when
 pub data Removes (u : State) (side : ℕ) (e : Entry) : Command → Type 0 where
-  -- "Invalidate all empties the side."
+  -- an invalidation takes all that its side has
   invalidated : Removes u side e (command.Invalidate side)
-  -- an insertion "first removes every overlapping entry, locked or not": one of its own partition
+  -- an insertion takes an entry that it overlaps, whatever the lock: one of its own partition
   overlapped : {strand flags word : ℕ} → partition (u .registers) strand ≡ e .partition
       → overlap (entryIn (insertion u strand side flags word)) e ≡ true
       → Removes u side e (command.Insert strand side flags word)
-  -- "Demap page removes the entry of the strand's partition whose page holds the address, of the realness given; a virtual one must have the selected context."
+  -- demap page: of the strand's partition, real or virtual as asked, at the address; if virtual, of the selected context
   demappedPage : {strand selector flags address : ℕ} → partition (u .registers) strand ≡ e .partition
       → isAt (partition (u .registers) strand) (eqb flags 1) (selected (u .registers) strand selector) address e ≡ true
       → Removes u side e (command.DemapPage strand side selector flags address)
-  -- "Demap context removes virtual entries of partition and selected context."
+  -- demap context: a virtual entry of the strand's partition and the selected context
   demappedContext : {strand selector : ℕ} → partition (u .registers) strand ≡ e .partition
       → inContext (partition (u .registers) strand) (selected (u .registers) strand selector) e ≡ true
       → Removes u side e (command.DemapContext strand side selector)
-  -- "Demap all removes the partition's unlocked entries, virtual and real."
+  -- demap all: an unlocked entry of the strand's partition, virtual or real
   demappedAll : {strand : ℕ} → partition (u .registers) strand ≡ e .partition → unlocked e ≡ true → Removes u side e (command.DemapAll strand side)
-  -- an insertion with no slot empty and none that overlaps takes an "unlocked slot", of any partition
+  -- an insertion with no slot empty and none that overlaps takes the slot of an unlocked entry, of any partition
   displaced : {strand flags word : ℕ} → anyOf isEmpty (sideOf u side) ≡ false
       → ((x : Entry) → Lives u side x → overlap (entryIn (insertion u strand side flags word)) x ≡ false)
       → unlocked e ≡ true

@@ -21,7 +21,7 @@ use Rattle.machine.specs.declared.Choice.the-variants.{Empty, Unused, Cl
 use Rattle.machine.specs.declared.Placed.{Placed}
 use Rattle.machine.specs.declared.Placed.the-variants.{Done, Displaced, Refused}
 
--- "Two entries of a side overlap when partition, realness and context agree and one page holds the other's start."
+-- overlap: two live entries with the same partition, real bit and context, the start of one in the page of the other
 unfoldable pub overlaps : Slot → Slot → Bool
 overlaps x y = isLive x && (isLive y && (eqb (x .owner) (y .owner) && (holds x (y .page) || holds y (x .page))))
 
@@ -34,19 +34,19 @@ abbrev pub removed : (Slot → Bool) → List Slot → List Slot
 removed test s = map (emptiedBy test) s
 
 unfoldable pub removes : Removal → Slot → Bool
--- "Demap page removes the entry of the strand's partition whose page holds the address, of the realness given; a virtual one must have the selected context."
+-- demap page: the entry that answers to a key; a real key has no context
 removes (Page key) x = answersTo key x
--- "Demap context removes virtual entries of partition and selected context."
+-- demap context: virtual entries of a partition and a context, whatever their locks
 removes (Context partition context) x = isLive x && eqb (x .owner) (ownerWord partition false context)
--- "Demap all removes the partition's unlocked entries, virtual and real."
+-- demap all: a partition's entries, real ones too, but no locked one
 removes (Unlocked partition) x = isLive x && (eqb (partitionOf x) partition && not (isLocked x))
--- "Invalidate all empties the side."
+-- invalidate all: every entry
 removes Everything x = isLive x
--- "It first removes every overlapping entry, locked or not."
+-- before an insertion: what the new entry overlaps, whatever its lock
 removes (Overlapping new) x = overlaps new x
 
 -- ---- insertion
--- "the strand's partition and tag access, its address rounded down to the word's page"; "The new entry is marked."
+-- the new entry: its page is the key's address rounded down by the word's size code, and its used bit is set (document 01: marked)
 unfoldable pub entryOf : Key → Bool → ℕ → Slot
 entryOf key locked word = record {
   owner = keyOwner key;
@@ -72,8 +72,8 @@ wants cand wanted.Empty x = isEmpty x
 wants cand wanted.Unused x = cand x && not (isUsed x)
 wants cand wanted.Candidate x = cand x
 
--- "the lowest empty slot; else the lowest unlocked slot without a mark; else it clears all marks of the side and takes the lowest unlocked slot".
--- Over any test for candidates
+-- which slot an insertion takes, of each sort the lowest: an empty one; else an unused candidate; else a candidate,
+-- with all used bits cleared. Over any test for candidates; those of document 01 are the unlocked entries
 unfoldable pub choice : (Slot → Bool) → List Slot → Choice
 choice cand s =
     foundOr (first (wants cand wanted.Empty) s) Empty

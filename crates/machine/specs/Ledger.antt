@@ -1,5 +1,5 @@
--- Document 01, "The ledger": the plain machine of demand 3. Its own text: it shares with the unit the decoded command and nothing else.
--- Assumes nothing.
+-- Document 01, "The ledger": the plain machine of demand 3, a text of its own. With the unit it shares the type of a decoded command and the
+-- kit's library (lists, booleans, comparisons); its own list functions are in laws/specs/Passing. Assumes nothing.
 use Prim.Native.Nat.{ℕ, zero, suc, _+_, _*_, _-_, _/_, _%_, _^_}
 use mathlib.Core.Bool.{Bool, true, not, cond, _&&_, _||_, Bool·beq}
 use mathlib.Core.Option.{Option, none, some}
@@ -10,7 +10,7 @@ use Rattle.laws.specs.Passing.{howMany, nonePasses, without, find}
 use Rattle.machine.specs.declared.Command.{Command}
 use Rattle.machine.specs.declared.Command.the-variants as command
 
--- "An entry is partition, realness, context (0 when real), the page address, the lock, the word."
+-- an entry, in the order of "Insertion and removal"; `real` is document 01's realness, and a real one has context 0
 pub record Entry : Type 0 where
   pub partition : ℕ
   pub real : Bool
@@ -19,12 +19,12 @@ pub record Entry : Type 0 where
   pub locked : Bool
   pub word : ℕ
 
--- "holds the registers above and, for each side, a list of entries, oldest first"
+-- registers by strand and number; entries by side, the newest last
 pub record Ledger : Type 0 where
   pub registers : ℕ → ℕ → ℕ
   pub entries : ℕ → List Entry
 
--- "It starts with the reset values and empty lists"
+-- as reset leaves it: mode 2, all other registers 0, no entries
 abbrev pub start : Ledger
 start = record { registers = λ strand number. cond (eqb number 3) 2 0; entries = λ side. [] }
 
@@ -56,7 +56,7 @@ bit k word = word / 2 ^ k % 2
 abbrev pub addressGood : ℕ → Bool
 addressGood a = ltb a (2 ^ 64) && not (leb 0x8000_0000_0000 a && ltb a 0xFFFF_8000_0000_0000)
 
--- "Word with v 1, a listed size, bits 55:40 zero"
+-- number 12: bit 63 is set, the size code has a page, and bits 40 to 55 are clear
 abbrev pub wordGood : ℕ → Bool
 wordGood word = (leb (2 ^ 63) word && ltb word (2 ^ 64)) && (codeListed (word % 16) && eqb (word / 2 ^ 40 % 2 ^ 16) 0)
 
@@ -64,7 +64,7 @@ wordGood word = (leb (2 ^ 63) word && ltb word (2 ^ 64)) && (codeListed (word % 
 abbrev pub reaches : Entry → ℕ → Bool
 reaches e a = leb (e .page) a && ltb a (e .page + pageBytes (e .word))
 
--- "Two entries of a side overlap when partition, realness and context agree and one page holds the other's start."
+-- overlap: the same partition, real bit and context, and the start of one in the page of the other
 unfoldable pub overlap : Entry → Entry → Bool
 overlap e x =
     (eqb (e .partition) (x .partition) && (Bool·beq (e .real) (x .real) && eqb (e .context) (x .context)))
@@ -91,7 +91,7 @@ valueGood r v =
     (cond (leb 16 r && leb r 19) (eqb v (v % 8 + v / 256 % 8 * 256) && (codeListed (v % 8) && codeListed (v / 256 % 8)))
     true))))))
 
--- "Selector 0 primary, 1 secondary, 2 nucleus (context 0)"
+-- the context of a selector: 0 asks for the primary one, 1 for the secondary one; the nucleus has 0
 abbrev pub contextPicked : Ledger → ℕ → ℕ → ℕ
 contextPicked l strand selector = cond (eqb selector 0) (l .registers strand 1) (cond (eqb selector 1) (l .registers strand 2) 0)
 
@@ -104,7 +104,7 @@ unfoldable pub bigEndian : ℕ → ℕ → List ℕ
 bigEndian zero v = []
 bigEndian (suc k) v = bigEndian k (v / 256) ++ (v % 256 ∷ [])
 
--- "kind, a, b, c, four zeros, two big-endian values of 8"
+-- an answer of "The stream": four bytes that say what it is, four that are zero, then two values
 unfoldable pub line : ℕ → ℕ → ℕ → ℕ → ℕ → ℕ → List ℕ
 line kind a b c v w = kind ∷ a ∷ b ∷ c ∷ 0 ∷ 0 ∷ 0 ∷ 0 ∷ (bigEndian 8 v ++ bigEndian 8 w)
 
@@ -131,7 +131,7 @@ unfoldable pub valueFrom : ℕ → List ℕ → ℕ
 valueFrom high [] = high
 valueFrom high (b ∷ r) = valueFrom (high * 256 + b) r
 
--- "4 displaced: b partition, c realness, first value page address plus context, second the word"
+-- what an answer of kind 4 says of the entry: bytes b and c, then its two values
 unfoldable pub nameIn : List ℕ → Name
 nameIn answer = record {
   partition = getD answer 2 0;
@@ -145,8 +145,8 @@ isNamed d e =
     eqb (d .partition) (e .partition)
     && (eqb (d .real) (oneIf (e .real)) && (eqb (d .place) (e .page + e .context) && eqb (d .word) (e .word)))
 
--- ---- "It puts questions 5 to 13 below to its own registers and lists"
--- "Insertion takes the strand's partition and tag access, its address rounded down to the word's page."
+-- ---- questions 5 to 13, by the registers and lists of the ledger
+-- the entry of an insertion: by the strand's partition and tag access; the word's size code says where the page starts
 unfoldable pub newEntry : Ledger → ℕ → ℕ → ℕ → ℕ → Entry
 newEntry l strand side flags word =
     let tag : ℕ = tagOf l strand side in
@@ -186,19 +186,19 @@ questions l (command.Access strand kind selector size address) =
 questions l (command.Read strand number) = (5, leb strand 3) ∷ (9, registerKnown number) ∷ []
 questions l (command.Pointers strand side) = (5, leb strand 3) ∷ (6, leb side 1) ∷ []
 
--- 13: "not 64 live, locked and none overlapped"
+-- 13: as many entries as slots, none of them unlocked, and none that the new one overlaps
 abbrev pub lacksSlot : ℕ → Entry → List Entry → Bool
 lacksSlot n e m = eqb (length m) n && (nonePasses unlocked m && nonePasses (overlap e) m)
 
 -- ---- insertion, demaps and invalidation
--- "it strikes the one named, which must be live and unlocked"; with no such entry there is no answer
+-- the entry named goes, if it is live and unlocked; with no such entry there is no answer
 abbrev pub displaces : Ledger → ℕ → Entry → Name → Option Entry → Written
 displaces l side e d none = answers l []
 displaces l side e d (some x) =
     answers (withEntries l side (without (isNamed d) (l .entries side) ++ (e ∷ [])))
     (line 4 0 (x .partition) (oneIf (x .real)) (x .page + x .context) (x .word))
 
--- "Insertion strikes those it overlaps; where 64 were live, none overlapped and one at least was unlocked, it strikes the one named. Then it appends itself."
+-- an insertion: 13; or a full side without an overlapped entry, where the one named goes; else those overlapped go. The new entry comes last
 unfoldable pub inserts : ℕ → Ledger → ℕ → Entry → Name → Written
 inserts n l side e d =
     let m : List Entry = l .entries side in
@@ -211,7 +211,7 @@ inserts n l side e d =
 abbrev pub demaps : Ledger → ℕ → (Entry → Bool) → Written
 demaps l side p = answers (withEntries l side (without p (l .entries side))) (line 0 0 0 0 (howMany p (l .entries side)) 0)
 
--- of a partition and a realness and, if virtual, a context, and its page holds the address
+-- of a partition, real or virtual as asked, if virtual of a context, and its page holds the address
 unfoldable pub isAt : ℕ → Bool → ℕ → ℕ → Entry → Bool
 isAt partition real context address e =
     eqb (e .partition) partition && (Bool·beq (e .real) real && ((real || eqb (e .context) context) && reaches e address))
@@ -231,7 +231,7 @@ pub record Asked : Type 0 where
   pub size : ℕ
   pub used : ℕ
 
--- "With the mask 1 and mode 0 or 1 the address is first taken modulo 2^32."
+-- the address used: with the mask on, only mode 2 keeps more than the low 32 bits
 abbrev pub usedAddress : Ledger → ℕ → ℕ → ℕ
 usedAddress l strand address = cond (eqb (l .registers strand 5) 1 && not (eqb (l .registers strand 3) 2)) (address % 0x1_0000_0000) address
 
@@ -241,7 +241,7 @@ askedSide a = cond (eqb (a .kind) 0) 0 1
 abbrev pub translationOn : Ledger → Asked → Bool
 translationOn l a = eqb (l .registers (a .strand) 4 / 2 ^ askedSide a % 2) 1
 
--- "Every trap writes the side's registers 22 and 24": number × 256 + type
+-- the two registers that every trap sets: fault address, and number × 256 + type
 abbrev pub faults : Ledger → Asked → ℕ → ℕ → Ledger
 faults l a number type = writes (writes l (a .strand) (22 + askedSide a) (a .used)) (a .strand) (24 + askedSide a) (number * 256 + type)
 
@@ -249,7 +249,7 @@ faults l a number type = writes (writes l (a .strand) (22 + askedSide a) (a .use
 abbrev pub plainTrap : Ledger → Asked → ℕ → Written
 plainTrap l a number = answers (faults l a number 0) (line 2 number 0 0 (a .used) (tagOf l (a .strand) (askedSide a)))
 
--- a trap that writes tag access: "the address used and the selected context, or context 0 when translation is off for the side"
+-- a trap that writes tag access: the address used, and as context the one picked, or 0 while translation is off
 unfoldable pub taggedTrap : Ledger → Asked → ℕ → ℕ → Written
 taggedTrap l a number type =
     let tag : ℕ = a .used - a .used % 8192 + cond (translationOn l a) (contextPicked l (a .strand) (a .selector)) 0 in
@@ -270,7 +270,7 @@ earlySteps l a =
     ∷ (not (addressGood (a .used)), taggedTrap l a (cond (eqb (a .kind) 0) 0x08 0x30) 0x20)
     ∷ []
 
--- "Every access that looks up": none of them ends it
+-- whether an access comes to its lookup: none of them ends it
 abbrev pub looksUp : Ledger → Asked → Bool
 looksUp l a = nonePasses (λ s. s .0) (earlySteps l a)
 
@@ -278,7 +278,7 @@ looksUp l a = nonePasses (λ s. s .0) (earlySteps l a)
 abbrev pub foundBy : Ledger → Asked → Entry → Bool
 foundBy l a = isAt (l .registers (a .strand) 0) (not (translationOn l a)) (contextPicked l (a .strand) (a .selector)) (a .used)
 
--- "None: 0x64 fetch, 0x68 data; real 0x3E, 0x3F."
+-- step 5 without an entry: a fetch has 0x64, or 0x3E with translation off; data have 0x68 or 0x3F
 unfoldable pub misses : Ledger → Asked → Written
 misses l a =
     taggedTrap l a
@@ -305,16 +305,16 @@ abbrev pub lookedUp : Ledger → Asked → Option Entry → Written
 lookedUp l a none = misses l a
 lookedUp l a (some e) = hits l a e
 
--- "An access takes the steps above and finds the live entry"
+-- an access: steps 1 to 4 in order; if none ends it, steps 5 to 8 on the list of its side
 unfoldable pub accesses : Ledger → Asked → Written
 accesses l a = firstFit (earlySteps l a) (lookedUp l a (find (foundBy l a) (l .entries (askedSide a))))
 
 -- ---- pointers
--- "base with its low 13 + N bits cleared, plus 16 × ((address div page size) mod 2^(9+N))"
+-- "Pointers": the base from bit 13 + N up, and 16 bytes for each page, by the low 9 + N bits of the page's number
 unfoldable pub pointerOf : ℕ → ℕ → ℕ → ℕ
 pointerOf base code address = base - base % 2 ^ (13 + base % 16) + address / codeBytes code % 2 ^ (9 + base % 16) * 16
 
--- "ps0, then ps1"
+-- both pointers of a side; whether the context in tag access is 0 says by which registers
 unfoldable pub pointers : Ledger → ℕ → ℕ → Written
 pointers l strand side =
     let tag : ℕ = tagOf l strand side in
@@ -337,7 +337,7 @@ does n l (command.Access strand kind selector size address) d =
 does n l (command.Read strand number) d = answers l (line 3 0 0 0 (l .registers strand number) 0)
 does n l (command.Pointers strand side) d = pointers l strand side
 
--- "a refused command changes nothing"
+-- a command, by the first question that is answered no; if there is one, the ledger stays
 unfoldable pub enters : (ℕ → ℕ) → Ledger → Command → Name → Written
 enters n l c d =
     let number : ℕ = firstNo (questions l c) in

@@ -7,15 +7,15 @@ use Rattle.machine.specs.declared.VirtualAddress.{VirtualAddress}
 use Rattle.machine.specs.declared.RealAddress.{RealAddress}
 use Rattle.machine.specs.declared.PhysicalAddress.{PhysicalAddress}
 
--- "Virtual and real ones are 64 bits and in range when below 2^47 or at least 2^64 − 2^47."
+-- in range, for virtual and real addresses: among the lowest or the highest 2^47 of 64 bits
 unfoldable pub inRange : ℕ → Bool
 inRange address = ltb address (2 ^ 47) || (leb (2 ^ 64 - 2 ^ 47) address && ltb address (2 ^ 64))
 
--- "The size code picks the page: 0, 1, 3 or 5 .."
+-- the size codes that have a page
 unfoldable pub listed : ℕ → Bool
 listed code = eqb code 0 || (eqb code 1 || (eqb code 3 || eqb code 5))
 
--- ".. for 2^13, 2^16, 2^22, 2^28 bytes": the page shift. An unlisted code has no page; its shift is 0
+-- the page shift: 8 KB, 64 KB, 4 MB and 256 MB. An unlisted code has no page; its shift is 0
 unfoldable pub pageShift : ℕ → ℕ
 pageShift code = cond (eqb code 0) 13 (cond (eqb code 1) 16 (cond (eqb code 3) 22 (cond (eqb code 5) 28 0)))
 
@@ -34,6 +34,6 @@ pageOffset code address = address % pageSize code
 abbrev pub untranslated : VirtualAddress → RealAddress
 untranslated a = record { 0 = a .0 }
 
--- "Mode 2: bypass. Physical address = address mod 2^40"
+-- step 3 of "Access": a bypass keeps the low 40 bits
 abbrev pub bypassed : VirtualAddress → PhysicalAddress
 bypassed a = record { 0 = a .0 % 2 ^ 40 }

@@ -18,7 +18,7 @@ pub data Place : Type 0 where
   empty : Place
   filled : Entry → Bool → Place
 
--- "64 slots each": of either side
+-- how many a side has: 64, either of them
 abbrev pub slots : ℕ → ℕ
 slots side = 64
 
@@ -121,7 +121,7 @@ abbrev pub referenceStart : (ℕ → ℕ) → Reference
 referenceStart n = record { ledger = start; places = λ side. replicate (n side) empty }
 
 -- ---- words
--- four to a place: whose the entry is (partition, realness, context), its page, its word, its lock and used bit; an empty one holds zeros
+-- four to a place: whose the entry is (partition, real bit, context), its page, its word, its lock and used bit; an empty one holds zeros
 abbrev pub placeWords : Place → List ℕ
 placeWords empty = 0 ∷ 0 ∷ 0 ∷ 0 ∷ []
 placeWords (filled e used) =

@@ -47,21 +47,21 @@ abbrev pub keyOf : Bool → ℕ → ℕ → ℕ → Key
 keyOf true partition context address = Real partition (record { 0 = address })
 keyOf false partition context address = Virtual partition context (record { 0 = address })
 
--- "Insertion takes the strand's partition and tag access"
+-- the entry of an insertion: by the strand's partition and the side's tag access; its flags say whether it is real and locked
 abbrev pub insertion : State → ℕ → ℕ → ℕ → ℕ → Slot
 insertion u strand side flags word =
     let tag : ℕ = tagAccess (u .registers) strand side in
     entryOf (keyOf (flagReal flags) (partition (u .registers) strand) (tagContext tag) (tagAddress tag)) (flagLocked flags) word
 
--- "Selector 0 to 2, not 1 on side 0"
+-- number 7: one of three selectors; the instruction side has no secondary context
 abbrev pub selectorFits : ℕ → ℕ → Bool
 selectorFits side selector = ltb selector 3 && not (eqb side 0 && eqb selector 1)
 
--- "not 2 on a mode 0 fetch"
+-- number 7: a user's fetch by the nucleus context
 abbrev pub nucleusFetch : List ℕ → ℕ → ℕ → ℕ → Bool
 nucleusFetch file strand kind selector = eqb kind 0 && (eqb selector 2 && eqb (mode file strand) 0)
 
--- "size 0 to 3, a fetch 2"
+-- number 8: 1, 2, 4 or 8 bytes; a fetch takes 4
 abbrev pub sizeFits : ℕ → ℕ → Bool
 sizeFits kind size = ltb size 4 && (not (eqb kind 0) || eqb size 2)
 

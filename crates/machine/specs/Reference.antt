@@ -50,7 +50,7 @@ referenceBytes n k (c ∷ cs) = enters n (k .ledger) c (displacedName k c) .byte
 -- of bytes that are read as t: what it leaves in the words and bytes lent, and what it returns
 pub record Leaves (n : ℕ → ℕ) (k : Reference) (input output : Bytes) (t : Reading) (left : List ℕ) (written : Bytes) (r : Run) : Type 0 where
   pub words : left ≡ referenceWords (referenceAfter n k (t .commands))
-  -- "Unwritten output keeps its bytes."
+  -- behind the answers the output is as it was lent
   pub bytes : written ≡ referenceBytes n k (t .commands) ++ drop (length (t .commands) * 24) output
   pub answered : r .answered ≡ length (t .commands)
   pub taken : r .taken ≡ length input - length (t .rest)

@@ -29,25 +29,25 @@ partition file strand = register file strand 0
 abbrev pub mode : List ℕ → ℕ → ℕ
 mode file strand = register file strand 3
 
--- "bit 0 fetch on, bit 1 data on"
+-- register 4 has a bit for each side
 abbrev pub translates : List ℕ → ℕ → ℕ → Bool
 translates file strand side = eqb (bits side 1 (register file strand 4)) 1
 
 abbrev pub addressMask : List ℕ → ℕ → ℕ
 addressMask file strand = register file strand 5
 
--- "8 + 4 × side + 2 × (1 if context is not zero) + (0 for ps0, 1 for ps1)"
+-- a TSB base, 8 to 15: by side, then by whether the context is zero, then by page size (0 is ps0, 1 is ps1)
 abbrev pub baseNumber : ℕ → ℕ → ℕ → ℕ
 baseNumber side context size = 8 + 4 * side + 2 * cond (eqb context 0) 0 1 + size
 
--- "16 + 2 × side + (1 if context is not zero)"
+-- a TSB configuration, 16 to 19: by side, then by whether the context is zero
 abbrev pub configurationNumber : ℕ → ℕ → ℕ
 configurationNumber side context = 16 + 2 * side + cond (eqb context 0) 0 1
 
 abbrev pub tagNumber : ℕ → ℕ
 tagNumber side = 20 + side
 
--- "address bits 63:13, context 12:0"
+-- tag access: a context in the low 13 bits, an address in those above
 abbrev pub tagAccess : List ℕ → ℕ → ℕ → ℕ
 tagAccess file strand side = register file strand (tagNumber side)
 
@@ -63,11 +63,11 @@ tagContext tag = tag % 2 ^ 13
 abbrev pub faultAddressNumber : ℕ → ℕ
 faultAddressNumber side = 22 + side
 
--- "trap number × 256 + fault type"
+-- it holds the trap as one number: 256 × its number, and its fault type
 abbrev pub faultNumber : ℕ → ℕ
 faultNumber side = 24 + side
 
--- "Selector 0 primary, 1 secondary, 2 nucleus (context 0)"
+-- the context of a selector: 2 is the nucleus, whose context is 0; 1 asks for the secondary one, 0 for the primary one
 abbrev pub selected : List ℕ → ℕ → ℕ → ℕ
 selected file strand selector = cond (eqb selector 2) 0 (register file strand (cond (eqb selector 1) 2 1))
 
@@ -80,11 +80,11 @@ known number = cond (ltb number 6) true (cond (ltb number 8) false (ltb number 2
 unfoldable pub writable : ℕ → Bool
 writable number = cond (ltb number 6) true (cond (ltb number 8) false (ltb number 22))
 
--- "Bits 63:13 base, 12:4 zero, 3:0 N"
+-- a TSB base: bits 4 to 12 are clear; N stands below them
 unfoldable pub baseAllowed : ℕ → Bool
 baseAllowed value = eqb (bits 4 9 value) 0
 
--- "Bits 2:0 the ps0 size code, 10:8 ps1, each 0, 1, 3 or 5; the rest zero."
+-- a TSB configuration: a size code of ps0 at bit 0 and one of ps1 at bit 8, both with a page, and no other bit
 unfoldable pub configurationAllowed : ℕ → Bool
 configurationAllowed value = listed (value % 2 ^ 3) && (listed (bits 8 3 value) && (eqb (bits 3 5 value) 0 && eqb (value / 2 ^ 11) 0))
 
@@ -102,11 +102,11 @@ allowed number value =
     (cond (ltb number 26) true
     (eqb value 0)))))))))
 
--- "registers hold writable values (20 to 25 any)"
+-- "Sound means", of registers: each cell holds what it may; 20 to 25 may hold anything
 unfoldable pub registersSound : List ℕ → Bool
 registersSound file = eqb (length file) registerWords && allBelow (λ i. allowed (i % 32) (getD file i 0)) registerWords
 
--- "Reset: all zero, mode 2": strands from the one given down
+-- reset: each strand in mode 2, its other registers 0; as many strands as the number given
 unfoldable pub resetStrands : ℕ → List ℕ
 resetStrands zero = []
 resetStrands (suc n) =

@@ -32,7 +32,7 @@ wordsOf (x ∷ r) = x .owner ∷ x .page ∷ x .word ∷ x .flags ∷ wordsOf r
 abbrev pub withSlot : List ℕ → ℕ → Slot → List ℕ
 withSlot words i x = sets words (i * 4) (x .owner ∷ x .page ∷ x .word ∷ x .flags ∷ [])
 
--- "an emptied slot holds zeros"
+-- an empty slot: zeros in all four words, lock and used bit included
 abbrev pub noSlot : Slot
 noSlot = record { owner = 0; page = 0; word = 0; flags = 0 }
 
@@ -44,7 +44,7 @@ abbrev pub onSlot : (Slot → Slot) → ℕ → List ℕ → List ℕ
 onSlot f i words = withSlot words i (f (slotOf words i))
 
 -- ---- what stands in a slot
--- "A slot whose word has v 1 is live, the others are empty"
+-- live where v, bit 63 of the word, is set; else empty
 abbrev pub isLive : Slot → Bool
 isLive x = eqb (x .word / 2 ^ 63) 1
 
@@ -54,7 +54,7 @@ sizeCode x = x .word % 2 ^ 4
 abbrev pub partitionOf : Slot → ℕ
 partitionOf x = x .owner / 2 ^ 14
 
--- the real bit ("realness")
+-- the real bit (document 01: realness)
 abbrev pub isReal : Slot → Bool
 isReal x = eqb (x .owner / 2 ^ 13 % 2) 1
 
@@ -64,7 +64,7 @@ contextOf x = x .owner % 2 ^ 13
 abbrev pub isLocked : Slot → Bool
 isLocked x = eqb (x .flags % 2) 1
 
--- the used bit ("mark")
+-- the used bit (document 01: mark)
 abbrev pub isUsed : Slot → Bool
 isUsed x = eqb (x .flags / 2 % 2) 1
 
@@ -73,7 +73,7 @@ isUsed x = eqb (x .flags / 2 % 2) 1
 abbrev pub ownerWord : ℕ → Bool → ℕ → ℕ
 ownerWord partition real context = partition % 8 * 2 ^ 14 + tick real * 2 ^ 13 + context % 2 ^ 13
 
--- "context 0 when real"
+-- of a real entry the context is 0
 abbrev pub keyOwner : Key → ℕ
 keyOwner (Virtual partition context address) = ownerWord partition false context
 keyOwner (Real partition address) = ownerWord partition true 0
@@ -108,10 +108,10 @@ withUsed x = record { owner = x .owner; page = x .page; word = x .word; flags = 
 abbrev pub withoutUsed : Slot → Slot
 withoutUsed x = record { owner = x .owner; page = x .page; word = x .word; flags = x .flags % 2 }
 
--- "The found entry is marked"
+-- sets the used bit of slot i
 abbrev pub setUsed : ℕ → List Slot → List Slot
 setUsed i s = set s i (withUsed (getD s i noSlot))
 
--- "it clears all marks of the side"
+-- clears every used bit
 abbrev pub clearUsed : List Slot → List Slot
 clearUsed s = map withoutUsed s

@@ -10,25 +10,25 @@ use Rattle.machine.specs.Slots.{isLive, sizeCode, isReal, contextOf, par
 use Rattle.machine.specs.Insertion.{overlaps}
 use Rattle.machine.specs.declared.Slot.{Slot}
 
--- "partition 0 to 7, context 0 to 8191 .. context 0 when real"; a context has 13 bits by its place in the word
+-- whose the entry is: a partition below 8, and context 0 for a real one; a context has 13 bits by its place in the word
 unfoldable pub ownerSound : Slot → Bool
 ownerSound x = ltb (partitionOf x) 8 && (not (isReal x) || eqb (contextOf x) 0)
 
--- "addresses in range and at a page start"
+-- its page: a multiple of its size, and in range
 unfoldable pub pageSound : Slot → Bool
 pageSound x = inRange (x .page) && eqb (pageStart (sizeCode x) (x .page)) (x .page)
 
--- "live entries have words that pass 12"; of the flags only lock and used bit are there
+-- a live entry: its word passes number 12; of the flags only lock and used bit are there
 unfoldable pub liveSound : Slot → Bool
 liveSound x = wordSound (x .word) && (ownerSound x && (pageSound x && ltb (x .flags) 4))
 
--- "empty slots are zero"
+-- an empty slot: zeros
 unfoldable pub emptySound : Slot → Bool
 emptySound x = eqb (x .owner) 0 && (eqb (x .page) 0 && (eqb (x .word) 0 && eqb (x .flags) 0))
 
 unfoldable pub slotSound : Slot → Bool
 slotSound x = cond (isLive x) (liveSound x) (emptySound x)
 
--- each slot is sound, and "none overlap"
+-- each slot is sound, and no two overlap
 unfoldable pub sideSound : List Slot → Bool
 sideSound s = allOf slotSound s && pairwise overlaps s

@@ -16,7 +16,7 @@ pub record Counts : Type 0 where
   pub itlb : ℕ
   pub dtlb : ℕ
 
--- "an instruction buffer (side 0) and a data buffer (side 1), 64 slots each"
+-- the T1's: 64 slots in either TLB (document 01: buffer)
 abbrev pub counts : Counts
 counts = record { itlb = 64; dtlb = 64 }
 
@@ -52,7 +52,7 @@ stateOf n words = record {
 unfoldable pub encode : State → List ℕ
 encode u = u .registers ++ (wordsOf (u .itlb) ++ wordsOf (u .dtlb))
 
--- "Reset: all zero, mode 2, buffers empty."
+-- reset: mode 2, every other register 0, every slot empty
 unfoldable pub reset : Counts → State
 reset n = record { registers = resetRegisters; itlb = replicate (n .itlb) noSlot; dtlb = replicate (n .dtlb) noSlot }
 

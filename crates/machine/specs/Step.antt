@@ -25,7 +25,7 @@ use Rattle.machine.specs.declared.Verdict.the-variants.{Passed, Refused}
 use Rattle.machine.specs.declared.Answer.{Answer}
 use Rattle.machine.specs.declared.Answer.the-variants as answer
 
--- "4 displaced: b partition, c realness, first value page address plus context, second the word"
+-- what an answer of kind 4 says of the entry; page address and context are one value, as in tag access
 abbrev pub displacedOf : Slot → Displaced
 displacedOf x = record { partition = partitionOf x; real = isReal x; place = x .page + contextOf x; word = x .word }
 
@@ -40,15 +40,15 @@ abbrev pub demap : State → ℕ → Removal → Stepped
 demap u side which = stepped (withSide u side (removed (removes which) (sideOf u side))) (answer.Done (count (removes which) (sideOf u side)))
 
 -- ---- pointers
--- "16 × ((address div page size) mod 2^(9+N))"
+-- "Pointers": 16 bytes for each page, by the low 9 + n bits of the page's number
 unfoldable pub tsbOffset : ℕ → ℕ → ℕ → ℕ
 tsbOffset n code address = 16 * (address / pageSize code % 2 ^ (9 + n))
 
--- "base with its low 13 + N bits cleared, plus" the offset
+-- the base from bit 13 + N up, and the offset; N is in the base's low four bits
 unfoldable pub tsbPointer : ℕ → ℕ → ℕ → ℕ
 tsbPointer base code address = base / 2 ^ (13 + base % 2 ^ 4) * 2 ^ (13 + base % 2 ^ 4) + tsbOffset (base % 2 ^ 4) code address
 
--- "context of tag access picks the registers"; size 0 is ps0, 1 is ps1
+-- whether the context in tag access is 0 says by which registers; size 0 is ps0, 1 is ps1
 abbrev pub pointer : List ℕ → ℕ → ℕ → ℕ → ℕ
 pointer file strand side size =
     let tag : ℕ = tagAccess file strand side in
@@ -72,7 +72,7 @@ act u (command.Access strand kind selector size address) =
 act u (command.Read strand number) = stepped u (answer.Read (register (u .registers) strand number) 0)
 act u (command.Pointers strand side) = stepped u (answer.Read (pointer (u .registers) strand side 0) (pointer (u .registers) strand side 1))
 
--- "a refused command changes nothing"
+-- a command that a question refused leaves the state
 abbrev pub stepBy : Verdict → State → Command → Stepped
 stepBy Passed u c = act u c
 stepBy (Refused r) u c = stepped u (answer.Refused r)

@@ -36,11 +36,11 @@ four s i = two s i * 65536 + two s (i + 2)
 unfoldable pub eight : Bytes → ℕ → ℕ
 eight s i = four s i * 4294967296 + four s (i + 4)
 
--- "All operands present? 3": a command of a known byte, by its width
+-- number 3: a command of a known byte, by its width
 abbrev pub whole : Bytes → ℕ → ℕ → Command → Decoded
 whole s at width c = cond (ltb (length s - at) width) (Stop 3) (Known c width)
 
--- what stands at a position; "Command byte known? 2"
+-- what stands at a position; number 2 where the byte is no command's
 unfoldable pub decodeAt : Bytes → ℕ → Decoded
 decodeAt s at =
     let operand : ℕ → ℕ = λ i. byte s (at + i) in
@@ -62,22 +62,22 @@ bytes v =
     v / 2 ^ 56 % 256 ∷ v / 2 ^ 48 % 256 ∷ v / 2 ^ 40 % 256 ∷ v / 2 ^ 32 % 256
     ∷ v / 2 ^ 24 % 256 ∷ v / 2 ^ 16 % 256 ∷ v / 2 ^ 8 % 256 ∷ v % 256 ∷ []
 
--- "kind, a, b, c, four zeros, two big-endian values of 8"
+-- an answer: its kind, three bytes a, b and c (of each number the low eight bits), four zero bytes, and two values
 abbrev pub answerOf : ℕ → ℕ → ℕ → ℕ → ℕ → ℕ → Bytes
 answerOf kind a b c v w = (kind ∷ a % 256 ∷ b % 256 ∷ c % 256 ∷ 0 ∷ 0 ∷ 0 ∷ 0 ∷ []) ++ (bytes v ++ bytes w)
 
 unfoldable pub answerBytes : Answer → Bytes
--- "Kind 0 done (0x03 to 0x05: first value the count removed)."
+-- done; a demap says how many it removed
 answerBytes (answer.Done n) = answerOf 0 0 0 0 n 0
--- "1 physical: a = cp + 2·e + 4·ie, first value the address."
+-- physical: a has the attributes
 answerBytes (answer.Physical t) = answerOf 1 (t .attributes) 0 0 (t .address .0) 0
--- "2 trap: a number, b fault type, first value the address used, second the tag access after it."
+-- trap: the address used, then tag access as the trap leaves it
 answerBytes (answer.Trap t) = answerOf 2 (trapNumber (t .trap)) (trapFault (t .trap)) 0 (t .address .0) (t .tag)
--- "3 read: the register as first value, or the two pointers."
+-- read: a register, or both pointers
 answerBytes (answer.Read v w) = answerOf 3 0 0 0 v w
--- "4 displaced: b partition, c realness, first value page address plus context, second the word."
+-- displaced: `place` has page address and context
 answerBytes (answer.Displaced d) = answerOf 4 0 (d .partition) (tick (d .real)) (d .place) (d .word)
--- "5 refused: a number."
+-- refused: a has the number
 answerBytes (answer.Refused r) = answerOf 5 (refusalNumber r) 0 0 0 0
 
 -- ---- a run
@@ -93,7 +93,7 @@ ended k = record { commands = []; width = 0; stop = k }
 abbrev pub more : Command → ℕ → Taken → Taken
 more c width rest = record { commands = c ∷ rest .commands; width = width + rest .width; stop = rest .stop }
 
--- "24 output bytes left? 4"
+-- number 4: no room for one more answer
 abbrev pub takesOne : Decoded → ℕ → (ℕ → Taken) → Taken
 takesOne (Stop k) room rest = ended k
 takesOne (Known c width) room rest = cond (ltb room 24) (ended 4) (more c width (rest width))

@@ -11,7 +11,7 @@ use Rattle.machine.specs.declared.PhysicalAddress.{PhysicalAddress}
 abbrev pub bits : ℕ → ℕ → ℕ → ℕ
 bits k n word = word / 2 ^ k % 2 ^ n
 
--- "v 63, nfo 62, soft2 61:56, address 55:13, ie 12, e 11, cp 10, cv 9, p 8, ep 7, w 6, soft 5:4, size 3:0"
+-- "Entry word (sun4v)": each field by its lowest bit and its width
 unfoldable pub unpacked : ℕ → Tte
 unpacked word = record {
   v = bits 63 1 word;
@@ -53,7 +53,7 @@ fields t =
     && (ltb (t .ie) 2 && (ltb (t .e) 2 && (ltb (t .cp) 2 && (ltb (t .cv) 2 && (ltb (t .p) 2 && (ltb (t .ep) 2
     && (ltb (t .w) 2 && (ltb (t .soft) (2 ^ 2) && ltb (t .size) (2 ^ 4))))))))))))
 
--- "Word with v 1, a listed size, bits 55:40 zero": what a live entry's word must be
+-- number 12, as "Sound means" asks it of a live entry's word: v set, a size code that has a page, an address below 2^40
 unfoldable pub wordSound : ℕ → Bool
 wordSound word = eqb (word / 2 ^ 63) 1 && (listed (word % 2 ^ 4) && eqb (bits 40 16 word) 0)
 
@@ -61,10 +61,10 @@ wordSound word = eqb (word / 2 ^ 63) 1 && (listed (word % 2 ^ 4) && eqb (bits 40
 unfoldable pub wordInsertable : ℕ → Bool
 wordInsertable word = wordSound word
 
--- "word address rounded down to the page": where the page starts in physical memory
+-- step 8 of "Access": where the page starts in physical memory; address bits within the page do not count
 unfoldable pub frame : ℕ → PhysicalAddress
 frame word = record { 0 = pageStart (word % 2 ^ 4) (bits 13 43 word * 2 ^ 13) }
 
--- ".. plus the offset in it", of an address in the page
+-- step 8: the physical address of an address in the page
 unfoldable pub physicalAt : ℕ → ℕ → PhysicalAddress
 physicalAt word address = record { 0 = frame word .0 + pageOffset (word % 2 ^ 4) address }

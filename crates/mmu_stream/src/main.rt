@@ -1,5 +1,5 @@
-// The stream program: at most 4,096 bytes of standard input, run from reset. It prints each answer as a line of 48
-// hexadecimal digits, then the word end, commands answered, bytes taken and the stop.
+// The stream program: at most 4,096 bytes of standard input, run from reset. A line for each answer, its 24 bytes in
+// hexadecimal; then a line that starts with `end` and has the three numbers that the run returns, the stop last.
 ghost use mathlib.Core.Path.{_≡_};
 ghost use Prim.Native.Nat.{_+_, _*_, _<_, _≤_};
 ghost use lib.ListN.{length};

@@ -13,7 +13,7 @@ use machine::Refusal;
 use machine::Verdict;
 use machine::VirtualAddress;
 
-// Selector 0 to 2, not 1 on side 0.
+// Number 7: one of three selectors; the instruction side has no secondary context.
 fn selector_fits(side: u8, selector: u8) -> bool
     ensures { λ r. ⌜ r ≡ selectorFits side selector ⌝ }
 {
@@ -26,7 +26,7 @@ fn selector_fits(side: u8, selector: u8) -> bool
     selector != 1
 }
 
-// Size 0 to 3, a fetch 2.
+// Number 8: 1, 2, 4 or 8 bytes; a fetch takes 4.
 fn size_fits(kind: u8, size: u8) -> bool
     ensures { λ r. ⌜ r ≡ sizeFits kind size ⌝ }
 {
@@ -39,7 +39,7 @@ fn size_fits(kind: u8, size: u8) -> bool
     size == 2
 }
 
-// A fetch of the nucleus in mode 0.
+// Number 7: a user's fetch by the nucleus context.
 fn is_nucleus_fetch(state: &[u64], strand: u8, kind: u8, selector: u8) -> bool
     requires { ⌜ (length (now state) ≡ stateWords counts) × (strand < 4) ⌝ }
     ensures { λ r. ⌜ r ≡ nucleusFetch (stateOf counts (now (state .entry)) .registers) strand kind selector ⌝ }

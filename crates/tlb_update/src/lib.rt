@@ -195,7 +195,7 @@ pub fn remove(slots: &mut [u64], which: Removal) -> u64
     taken
 }
 
-// The entry of an insertion: its address rounded down to the word's page, its used bit set.
+// The entry of an insertion: at the start of its page, by the word's size code, and with its used bit set.
 pub fn new_entry(key: Key, locked: bool, word: u64) -> Slot
     ensures { λ r. ⌜ r ≡ entryOf key locked word ⌝ }
 {

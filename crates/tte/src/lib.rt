@@ -41,7 +41,7 @@ pub fn pack(t: Tte) -> u64
     from_6 | (t.soft % 4) << 4 | t.size % 16
 }
 
-// A word that a live entry may have: v 1, a listed size, bits 55:40 zero.
+// A word that a live entry may have (number 12): v set, a size code that has a page, an address below 2^40.
 pub fn word_sound(word: u64) -> bool
     ensures { λ r. ⌜ r ≡ wordSound word ⌝ }
 {
