@@ -5,7 +5,7 @@ use mathlib.Core.Path.{_≡_, _∙_}
 use mathlib.Core.List.{List}
 use lib.ListN.{length, length-set}
 use Rattle.machine.specs.Registers.{registerWords, withRegister}
-use Rattle.machine.specs.State.{counts, State, stateOf, encode, withRegisters}
+use Rattle.machine.specs.State.{counts, State, stateIn, encode, withRegisters}
 use Rattle.machine.specs.Access.{trapRegisters}
 use Rattle.machine.specs.declared.Access.{Access}
 use Rattle.machine.specs.declared.Tag.{Tag}
@@ -14,16 +14,16 @@ use Rattle.machine.specs.declared.Trap.{Trap}
 use Rattle.state.proofs.Parts.{Sized, sized-with-registers, sized-back}
 
 -- words that hold a state of the right size give it back
-pub left-back : {u : State} {left : List ℕ} → Sized counts u → left ≡ encode u → stateOf counts left ≡ u
+pub left-back : {u : State} {left : List ℕ} → Sized counts u → left ≡ encode u → stateIn left ≡ u
 left-back {u} z e = rw e (sized-back counts u z)
 
 module _ (u : State) (z : Sized counts u) (file : List ℕ) (l : length file ≡ registerWords) {left : List ℕ} (e : left ≡ encode (withRegisters u file)) where
-  pub registers-back : stateOf counts left ≡ withRegisters u file
+  pub registers-back : stateIn left ≡ withRegisters u file
   registers-back = left-back (sized-with-registers counts u z file l) e
 
   -- one more register written
   pub written-more : {next : List ℕ} (strand number value : ℕ)
-      → next ≡ encode (withRegisters (stateOf counts left) (withRegister (stateOf counts left .registers) strand number value))
+      → next ≡ encode (withRegisters (stateIn left) (withRegister (stateIn left .registers) strand number value))
       → next ≡ encode (withRegisters u (withRegister file strand number value))
   written-more strand number value f = f ∙ rw registers-back
 

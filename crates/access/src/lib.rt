@@ -3,12 +3,12 @@ ghost use mathlib.Core.Path.{_≡_};
 ghost use mathlib.Core.Bool.{true, not, cond, _&&_, _||_};
 ghost use Prim.Native.Nat.{_+_, _%_, _^_, _<_, _≤_};
 ghost use lib.Dec.{eqb};
-ghost use lib.ListN.{length};
 ghost use Rattle.laws.specs.declared.Found.the-variants.{At, Nothing};
 ghost use Rattle.machine.specs.Words.{bits};
 ghost use Rattle.machine.specs.Registers.{withRegister, translates, registersSound};
 ghost use Rattle.machine.specs.Questions.{kindSide};
-ghost use Rattle.machine.specs.State.{counts, stateWords, stateOf, encode, withRegisters, sound};
+ghost use Rattle.machine.specs.State.{counts, stateIn, encode, withRegisters};
+ghost use Rattle.state.specs.Calls.{Lent, SoundIn, Did};
 ghost use Rattle.machine.specs.Access.{addressUsed, exception, trapTag, bypassTo, lookupKey, prepare, missTrap, faultType, judge, trapFault, trapRegisters, trapTo, settleFound, settle, accessTo};
 ghost use Rattle.machine.specs.declared.Prepared.the-variants.{Lookup};
 ghost use Rattle.machine.specs.declared.Tag.the-variants.{Kept};
@@ -34,8 +34,8 @@ fn bit_of(word: u64, place: u64) -> u64
 
 // Whether translation is on for the side of an access.
 fn translation_on(state: &[u64], a: Access) -> bool
-    requires { ⌜ (length (now state) ≡ stateWords counts) × (a .strand < 4) ⌝ }
-    ensures { λ r. ⌜ r ≡ translates (stateOf counts (now (state .entry)) .registers) (a .strand) (kindSide (a .kind)) ⌝ }
+    requires { ⌜ Lent (now state) × (a .strand < 4) ⌝ }
+    ensures { λ r. ⌜ r ≡ translates (stateIn (now (state .entry)) .registers) (a .strand) (kindSide (a .kind)) ⌝ }
 {
     let enables = state::read_register(state, a.strand, 4);
     bit_of(enables, operands::access_side(a.kind) as u64) == 1
@@ -43,8 +43,8 @@ fn translation_on(state: &[u64], a: Access) -> bool
 
 // The address used: with the mask on, modes 0 and 1 keep only its low 32 bits.
 pub fn used_address(state: &[u64], strand: u8, address: VirtualAddress) -> VirtualAddress
-    requires { ⌜ (length (now state) ≡ stateWords counts) × (strand < 4) ⌝ }
-    ensures { λ r. ⌜ r ≡ addressUsed (stateOf counts (now (state .entry)) .registers) strand address ⌝ }
+    requires { ⌜ Lent (now state) × (strand < 4) ⌝ }
+    ensures { λ r. ⌜ r ≡ addressUsed (stateIn (now (state .entry)) .registers) strand address ⌝ }
 {
     if state::read_register(state, strand, 5) != 1 {
         return address;
@@ -67,9 +67,9 @@ fn exception_of(kind: u8, fault: u64) -> Trap
 
 // The context that a trap leaves in tag access: the one selected; 0 while translation is off.
 fn tag_written(state: &[u64], a: Access) -> Tag
-    requires { ⌜ (length (now state) ≡ stateWords counts) × (a .strand < 4)
-        × (registersSound (stateOf counts (now state) .registers) ≡ true) ⌝ }
-    ensures tag { λ r. ⌜ r ≡ trapTag (stateOf counts (now (state .entry)) .registers) a ⌝ }
+    requires { ⌜ Lent (now state) × (a .strand < 4)
+        × (registersSound (stateIn (now state) .registers) ≡ true) ⌝ }
+    ensures tag { λ r. ⌜ r ≡ trapTag (stateIn (now (state .entry)) .registers) a ⌝ }
     ensures fits { λ r. ⌜ TagFits r ⌝ }
 {
     if translation_on(state, a) {
@@ -89,8 +89,8 @@ fn bypass_translation(used: VirtualAddress) -> Translation
 }
 
 fn key_of_access(state: &[u64], a: Access) -> Key
-    requires { ⌜ (length (now state) ≡ stateWords counts) × (a .strand < 4) ⌝ }
-    ensures { λ r. ⌜ r ≡ lookupKey (stateOf counts (now (state .entry)) .registers) a ⌝ }
+    requires { ⌜ Lent (now state) × (a .strand < 4) ⌝ }
+    ensures { λ r. ⌜ r ≡ lookupKey (stateIn (now (state .entry)) .registers) a ⌝ }
 {
     let on = translation_on(state, a);
     let partition = state::read_register(state, a.strand, 0);
@@ -121,9 +121,9 @@ fn is_user_nucleus(mode: u64, kind: u8, selector: u8) -> bool
 
 // Steps 1 to 4.
 fn prepare_access(state: &[u64], a: Access) -> Prepared
-    requires { ⌜ (length (now state) ≡ stateWords counts) × (a .strand < 4) × (a .size < 4)
-        × (registersSound (stateOf counts (now state) .registers) ≡ true) ⌝ }
-    ensures prepared { λ r. ⌜ r ≡ prepare (stateOf counts (now (state .entry)) .registers) a ⌝ }
+    requires { ⌜ Lent (now state) × (a .strand < 4) × (a .size < 4)
+        × (registersSound (stateIn (now state) .registers) ≡ true) ⌝ }
+    ensures prepared { λ r. ⌜ r ≡ prepare (stateIn (now (state .entry)) .registers) a ⌝ }
     ensures fits { λ r. ⌜ StopFits r ⌝ }
 {
     if !aligned(a.used, a.size) {
@@ -143,8 +143,8 @@ fn prepare_access(state: &[u64], a: Access) -> Prepared
 }
 
 fn miss_of(state: &[u64], a: Access) -> Trap
-    requires { ⌜ (length (now state) ≡ stateWords counts) × (a .strand < 4) ⌝ }
-    ensures trap { λ r. ⌜ r ≡ missTrap (stateOf counts (now (state .entry)) .registers) a ⌝ }
+    requires { ⌜ Lent (now state) × (a .strand < 4) ⌝ }
+    ensures trap { λ r. ⌜ r ≡ missTrap (stateIn (now (state .entry)) .registers) a ⌝ }
     ensures fits { λ r. ⌜ FaultFits r ⌝ }
 {
     if translation_on(state, a) {
@@ -216,8 +216,8 @@ fn is_write_denied(kind: u8, word: u64) -> bool
 
 // Steps 6 to 8.
 fn judge_word(state: &[u64], a: Access, word: u64) -> Judged
-    requires { ⌜ (length (now state) ≡ stateWords counts) × (a .strand < 4) ⌝ }
-    ensures judged { λ r. ⌜ r ≡ judge (stateOf counts (now (state .entry)) .registers) a word ⌝ }
+    requires { ⌜ Lent (now state) × (a .strand < 4) ⌝ }
+    ensures judged { λ r. ⌜ r ≡ judge (stateIn (now (state .entry)) .registers) a word ⌝ }
     ensures fits { λ r. ⌜ JudgedFits r ⌝ }
 {
     let fault = fault_of(state::read_register(state, a.strand, 3), a.kind, word);
@@ -235,18 +235,18 @@ fn judge_word(state: &[u64], a: Access, word: u64) -> Judged
 
 // Writes a register that each side has: the base is its number on side 0.
 fn write_side(state: &mut [u64], a: Access, base: u8, value: u64)
-    requires { ⌜ (length (now state) ≡ stateWords counts) × (a .strand < 4) × (base < 31) ⌝ }
-    ensures { λ r. ⌜ now (state .exit) ≡ encode (withRegisters (stateOf counts (now (state .entry)))
-        (withRegister (stateOf counts (now (state .entry)) .registers) (a .strand) (base + kindSide (a .kind)) value)) ⌝ }
+    requires { ⌜ Lent (now state) × (a .strand < 4) × (base < 31) ⌝ }
+    ensures { λ r. ⌜ now (state .exit) ≡ encode (withRegisters (stateIn (now (state .entry)))
+        (withRegister (stateIn (now (state .entry)) .registers) (a .strand) (base + kindSide (a .kind)) value)) ⌝ }
 {
     state::write_register(state, a.strand, base + operands::access_side(a.kind), value);
 }
 
 // The two registers that every trap sets: fault address (22) and fault (24).
 fn write_fault(state: &mut [u64], a: Access, trap: Trap)
-    requires { ⌜ (length (now state) ≡ stateWords counts) × (a .strand < 4) × FaultFits trap ⌝ }
-    ensures { λ r. ⌜ now (state .exit) ≡ encode (withRegisters (stateOf counts (now (state .entry)))
-        (trapRegisters (stateOf counts (now (state .entry)) .registers) a trap Kept)) ⌝ }
+    requires { ⌜ Lent (now state) × (a .strand < 4) × FaultFits trap ⌝ }
+    ensures { λ r. ⌜ now (state .exit) ≡ encode (withRegisters (stateIn (now (state .entry)))
+        (trapRegisters (stateIn (now (state .entry)) .registers) a trap Kept)) ⌝ }
 {
     write_side(state, a, 22, a.used.0);
     write_side(
@@ -259,9 +259,9 @@ fn write_fault(state: &mut [u64], a: Access, trap: Trap)
 
 // What a trap writes.
 fn write_trap(state: &mut [u64], a: Access, trap: Trap, tag: Tag)
-    requires { ⌜ (length (now state) ≡ stateWords counts) × (a .strand < 4) × FaultFits trap × TagFits tag ⌝ }
-    ensures { λ r. ⌜ now (state .exit) ≡ encode (withRegisters (stateOf counts (now (state .entry)))
-        (trapRegisters (stateOf counts (now (state .entry)) .registers) a trap tag)) ⌝ }
+    requires { ⌜ Lent (now state) × (a .strand < 4) × FaultFits trap × TagFits tag ⌝ }
+    ensures { λ r. ⌜ now (state .exit) ≡ encode (withRegisters (stateIn (now (state .entry)))
+        (trapRegisters (stateIn (now (state .entry)) .registers) a trap tag)) ⌝ }
 {
     write_fault(state, a, trap);
     if let Tag::Written(context) = tag {
@@ -270,9 +270,8 @@ fn write_trap(state: &mut [u64], a: Access, trap: Trap, tag: Tag)
 }
 
 fn take_trap(state: &mut [u64], a: Access, trap: Trap, tag: Tag) -> Answer
-    requires { ⌜ (length (now state) ≡ stateWords counts) × (a .strand < 4) × FaultFits trap × TagFits tag ⌝ }
-    ensures words { λ r. ⌜ now (state .exit) ≡ encode (trapTo (stateOf counts (now (state .entry))) a trap tag .state) ⌝ }
-    ensures answer { λ r. ⌜ r ≡ trapTo (stateOf counts (now (state .entry))) a trap tag .answer ⌝ }
+    requires { ⌜ Lent (now state) × (a .strand < 4) × FaultFits trap × TagFits tag ⌝ }
+    ensures { λ r. ⌜ Did (now (state .exit)) r (trapTo (stateIn (now (state .entry))) a trap tag) ⌝ }
 {
     write_trap(state, a, trap, tag);
     let used = a.used;
@@ -285,12 +284,10 @@ fn take_trap(state: &mut [u64], a: Access, trap: Trap, tag: Tag) -> Answer
 
 // A trap that writes tag access.
 fn take_tagged(state: &mut [u64], a: Access, trap: Trap) -> Answer
-    requires { ⌜ (length (now state) ≡ stateWords counts) × (a .strand < 4) × FaultFits trap
-        × (registersSound (stateOf counts (now state) .registers) ≡ true) ⌝ }
-    ensures words { λ r. ⌜ now (state .exit) ≡ encode (trapTo (stateOf counts (now (state .entry))) a trap
-        (trapTag (stateOf counts (now (state .entry)) .registers) a) .state) ⌝ }
-    ensures answer { λ r. ⌜ r ≡ trapTo (stateOf counts (now (state .entry))) a trap
-        (trapTag (stateOf counts (now (state .entry)) .registers) a) .answer ⌝ }
+    requires { ⌜ Lent (now state) × (a .strand < 4) × FaultFits trap
+        × (registersSound (stateIn (now state) .registers) ≡ true) ⌝ }
+    ensures { λ r. ⌜ Did (now (state .exit)) r
+        (trapTo (stateIn (now (state .entry))) a trap (trapTag (stateIn (now (state .entry)) .registers) a)) ⌝ }
 {
     let tag = tag_written(state, a);
     take_trap(state, a, trap, tag)
@@ -298,10 +295,9 @@ fn take_tagged(state: &mut [u64], a: Access, trap: Trap) -> Answer
 
 // A miss traps and sets no used bit.
 fn settle_miss(state: &mut [u64], a: Access) -> Answer
-    requires { ⌜ (length (now state) ≡ stateWords counts) × (a .strand < 4)
-        × (registersSound (stateOf counts (now state) .registers) ≡ true) ⌝ }
-    ensures words { λ r. ⌜ now (state .exit) ≡ encode (settleFound (stateOf counts (now (state .entry))) a Nothing .state) ⌝ }
-    ensures answer { λ r. ⌜ r ≡ settleFound (stateOf counts (now (state .entry))) a Nothing .answer ⌝ }
+    requires { ⌜ Lent (now state) × (a .strand < 4)
+        × (registersSound (stateIn (now state) .registers) ≡ true) ⌝ }
+    ensures { λ r. ⌜ Did (now (state .exit)) r (settleFound (stateIn (now (state .entry))) a Nothing) ⌝ }
 {
     let trap = miss_of(state, a);
     take_tagged(state, a, trap)
@@ -309,10 +305,9 @@ fn settle_miss(state: &mut [u64], a: Access) -> Answer
 
 // A hit has its used bit set, and is judged.
 fn settle_hit(state: &mut [u64], a: Access, i: usize) -> Answer
-    requires { ⌜ (length (now state) ≡ stateWords counts) × (a .strand < 4) × (i < 64)
-        × (registersSound (stateOf counts (now state) .registers) ≡ true) ⌝ }
-    ensures words { λ r. ⌜ now (state .exit) ≡ encode (settleFound (stateOf counts (now (state .entry))) a (At i) .state) ⌝ }
-    ensures answer { λ r. ⌜ r ≡ settleFound (stateOf counts (now (state .entry))) a (At i) .answer ⌝ }
+    requires { ⌜ Lent (now state) × (a .strand < 4) × (i < 64)
+        × (registersSound (stateIn (now state) .registers) ≡ true) ⌝ }
+    ensures { λ r. ⌜ Did (now (state .exit)) r (settleFound (stateIn (now (state .entry))) a (At i)) ⌝ }
 {
     let side = operands::access_side(a.kind);
     let judged = judge_word(state, a, state::slot_of(state, side, i).word);
@@ -325,9 +320,8 @@ fn settle_hit(state: &mut [u64], a: Access, i: usize) -> Answer
 
 // Step 5 and what comes of it.
 fn look_up(state: &mut [u64], hints: &mut [u8; 256], a: Access, key: Key) -> Answer
-    requires { ⌜ (length (now state) ≡ stateWords counts) × (a .strand < 4) × (sound counts (stateOf counts (now state)) ≡ true) ⌝ }
-    ensures words { λ r. ⌜ now (state .exit) ≡ encode (settle (stateOf counts (now (state .entry))) a (Lookup key) .state) ⌝ }
-    ensures answer { λ r. ⌜ r ≡ settle (stateOf counts (now (state .entry))) a (Lookup key) .answer ⌝ }
+    requires { ⌜ Lent (now state) × (a .strand < 4) × SoundIn (now state) ⌝ }
+    ensures { λ r. ⌜ Did (now (state .exit)) r (settle (stateIn (now (state .entry))) a (Lookup key)) ⌝ }
 {
     let found = state::search_hinted(state, hints, operands::access_side(a.kind), key);
     match found {
@@ -338,10 +332,9 @@ fn look_up(state: &mut [u64], hints: &mut [u8; 256], a: Access, key: Key) -> Ans
 
 // One access that passed its questions.
 pub fn access_to(state: &mut [u64], hints: &mut [u8; 256], a: Access) -> Answer
-    requires { ⌜ (length (now state) ≡ stateWords counts) × (a .strand < 4) × (a .size < 4)
-        × (sound counts (stateOf counts (now state)) ≡ true) ⌝ }
-    ensures words { λ r. ⌜ now (state .exit) ≡ encode (accessTo (stateOf counts (now (state .entry))) a .state) ⌝ }
-    ensures answer { λ r. ⌜ r ≡ accessTo (stateOf counts (now (state .entry))) a .answer ⌝ }
+    requires { ⌜ Lent (now state) × (a .strand < 4) × (a .size < 4)
+        × SoundIn (now state) ⌝ }
+    ensures { λ r. ⌜ Did (now (state .exit)) r (accessTo (stateIn (now (state .entry))) a) ⌝ }
 {
     let prepared = prepare_access(state, a);
     match prepared {

@@ -7,7 +7,7 @@ ghost use mathlib.Core.Bool.{false};
 ghost use Prim.Native.Nat.{_+_, _-_, _*_, _<_, _≤_, _%_};
 ghost use lib.ListN.{length};
 ghost use Rattle.machine.specs.Slots.{slotsOf, search};
-ghost use Rattle.machine.specs.State.{counts, stateWords};
+ghost use Rattle.machine.specs.State.{stateLength};
 ghost use Rattle.machine.specs.Insertion.{entryOf};
 ghost use Rattle.machine.specs.declared.Key.the-variants.{Virtual};
 ghost use Rattle.examples.specs.Lookup.{foundSlot};
@@ -145,7 +145,7 @@ fn print_displaced(q: u64, old: Slot, new: Found) {
 
 // Insertion q, and what it displaces.
 fn insertion(slots: &mut [u64], state: &mut [u64], q: u64)
-    requires { ⌜ (length (now slots) % 4 ≡ 0) × (length (now state) ≡ stateWords counts) × (1 ≤ q) × (q ≤ 66) ⌝ }
+    requires { ⌜ (length (now slots) % 4 ≡ 0) × (length (now state) ≡ stateLength) × (1 ≤ q) × (q ≤ 66) ⌝ }
 {
     let new = numbered(q);
     if let Placed::Displaced(old) = tlb_update::insert(slots, entry(new, 0)) {
@@ -163,7 +163,7 @@ fn insertion(slots: &mut [u64], state: &mut [u64], q: u64)
 
 // Insertions 1 to 66.
 fn insertions(slots: &mut [u64], state: &mut [u64])
-    requires { ⌜ (length (now slots) % 4 ≡ 0) × (length (now state) ≡ stateWords counts) ⌝ }
+    requires { ⌜ (length (now slots) % 4 ≡ 0) × (length (now state) ≡ stateLength) ⌝ }
 {
     let mut q = 1;
     while q <= 66 {

@@ -15,7 +15,7 @@ use Rattle.machine.specs.Demand3.{Event, run}
 use Rattle.machine.specs.Good.{ReferenceGood, GoodWords}
 use Rattle.machine.specs.declared.Command.{Command}
 use Rattle.machine.specs.declared.Command.the-variants as command
-use Rattle.machine.specs.declared.Run.{Run}
+use Rattle.machine.specs.declared.Report.{Report}
 
 -- ---- commands. n is the slot count of each side
 -- the name of an entry; where none is displaced, no name is read
@@ -48,7 +48,7 @@ referenceBytes n k (c ∷ cs) = enters n (k .ledger) c (displacedName k c) .byte
 
 -- ---- a run
 -- of bytes that are read as t: what it leaves in the words and bytes lent, and what it returns
-pub record Leaves (n : ℕ → ℕ) (k : Reference) (input output : Bytes) (t : Reading) (left : List ℕ) (written : Bytes) (r : Run) : Type 0 where
+pub record Leaves (n : ℕ → ℕ) (k : Reference) (input output : Bytes) (t : Reading) (left : List ℕ) (written : Bytes) (r : Report) : Type 0 where
   pub words : left ≡ referenceWords (referenceAfter n k (t .commands))
   -- behind the answers the output is as it was lent
   pub bytes : written ≡ referenceBytes n k (t .commands) ++ drop (length (t .commands) * 24) output
@@ -57,7 +57,7 @@ pub record Leaves (n : ℕ → ℕ) (k : Reference) (input output : Bytes) (t : 
   pub stop : r .stop ≡ t .stop
 
 -- a call on any words, with input and output lent
-pub record RunTold (n : ℕ → ℕ) (words : List ℕ) (input output : Bytes) (left : List ℕ) (written : Bytes) (r : Run) : Type 0 where
+pub record RunTold (n : ℕ → ℕ) (words : List ℕ) (input output : Bytes) (left : List ℕ) (written : Bytes) (r : Report) : Type 0 where
   -- number 1: words that are not sound stay, and so does the output
   pub unsound : (GoodWords n words → ⊥) → (left ≡ words) × (written ≡ output) × (r .answered ≡ 0) × (r .taken ≡ 0) × (r .stop ≡ 1)
   pub sound : (k : Reference) → ReferenceGood n k → words ≡ referenceWords k
@@ -69,7 +69,7 @@ pub record ResetTold (n : ℕ → ℕ) (words left : List ℕ) (number : ℕ) : 
   pub other : (length words ≡ length (referenceWords (referenceStart n)) → ⊥) → (left ≡ words) × (number ≡ 1)
 
 -- ---- the unit, by its own counts of slots and by the reference's
-abbrev pub returned : Outcome → Run
+abbrev pub returned : Outcome → Report
 returned o = record { answered = o .answered; taken = o .taken; stop = o .stop }
 
 -- runs one after the other, each on the words that the last one left

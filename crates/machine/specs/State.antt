@@ -49,6 +49,13 @@ stateOf n words = record {
   dtlb = slotsOf (drop (registerWords + n .itlb * 4) words);
 }
 
+-- the state that lent words hold, and how many words that is
+abbrev pub stateIn : List ℕ → State
+stateIn words = stateOf counts words
+
+abbrev pub stateLength : ℕ
+stateLength = stateWords counts
+
 unfoldable pub encode : State → List ℕ
 encode u = u .registers ++ (wordsOf (u .itlb) ++ wordsOf (u .dtlb))
 

@@ -17,7 +17,7 @@ use Rattle.machine.specs.declared.Answer.{Answer}
 use Rattle.machine.specs.declared.Answer.the-variants as answer
 use Rattle.machine.specs.declared.Decoded.{Decoded}
 use Rattle.machine.specs.declared.Decoded.the-variants.{Known, Stop}
-use Rattle.machine.specs.declared.Run.{Run}
+use Rattle.machine.specs.declared.Report.{Report}
 
 abbrev pub Bytes : Type 0
 Bytes = List ℕ
@@ -126,7 +126,7 @@ pub record Outcome : Type 0 where
   pub stop : ℕ
 
 -- what a call leaves in the lent words and bytes, with what it returns
-abbrev pub outcome : List ℕ → Bytes → Run → Outcome
+abbrev pub outcome : List ℕ → Bytes → Report → Outcome
 outcome words output r = record { words = words; output = output; answered = r .answered; taken = r .taken; stop = r .stop }
 
 -- after `answered` commands of `at` bytes, the commands yet to be taken

@@ -254,7 +254,7 @@ pub enum Decoded {
 
 // What a run returns beside the state and the output.
 #[repr(C)]
-pub struct Run {
+pub struct Report {
     pub answered: usize,
     pub taken: usize,
     pub stop: u8,

@@ -2,11 +2,10 @@
 -- Assumes nothing.
 use Prim.Native.Nat.{ℕ, _+_, _^_, _<_}
 use mathlib.Core.Path.{_≡_}
-use mathlib.Core.Bool.{true}
 use mathlib.Core.List.{List}
-use lib.ListN.{length}
 use Rattle.machine.specs.Slots.{contextOf}
-use Rattle.machine.specs.State.{counts, stateWords, stateOf, sound}
+use Rattle.machine.specs.State.{stateIn}
+use Rattle.state.specs.Calls.{Lent, SoundIn}
 use Rattle.machine.specs.Questions.{verdict}
 use Rattle.machine.specs.declared.Command.{Command}
 use Rattle.machine.specs.declared.Verdict.the-variants.{Passed}
@@ -21,4 +20,4 @@ PlaceFits Refused = Unit {0}
 
 -- the words of a sound state on which the command passed its questions
 abbrev pub Ready : List ℕ → Command → Type 0
-Ready words c = (length words ≡ stateWords counts) × (sound counts (stateOf counts words) ≡ true) × (verdict (stateOf counts words) c ≡ Passed)
+Ready words c = Lent words × SoundIn words × (verdict (stateIn words) c ≡ Passed)

@@ -1,15 +1,13 @@
 // One command on the state: its questions, then what it does and answers.
 ghost use mathlib.Core.Path.{_≡_};
-ghost use mathlib.Core.Bool.{true, cond};
+ghost use mathlib.Core.Bool.{cond};
 ghost use Prim.Native.Nat.{_+_, _*_, _^_, _<_};
-ghost use lib.ListN.{length};
 ghost use Rattle.machine.specs.Words.{bits};
 ghost use Rattle.machine.specs.Slots.{contextOf};
-ghost use Rattle.machine.specs.State.{counts, stateWords, stateOf, encode, sound};
-ghost use Rattle.machine.specs.Questions.{verdict};
+ghost use Rattle.machine.specs.State.{stateIn};
+ghost use Rattle.state.specs.Calls.{Lent, SoundIn, Did};
 ghost use Rattle.machine.specs.Step.{displacedOf, placedAnswer, demap, tsbOffset, tsbPointer, pointer, act, step};
 ghost use Rattle.machine.specs.declared.Command.the-variants as command;
-ghost use Rattle.machine.specs.declared.Verdict.the-variants.{Passed};
 ghost use Rattle.mmu.specs.Fits.{PlaceFits, Ready};
 ghost use lib.Dec.{eqb};
 use machine::Access;
@@ -50,10 +48,9 @@ fn placed_to_answer(placed: Placed) -> Answer
 
 // An insertion that passed its questions.
 fn act_insert(state: &mut [u64], strand: u8, side: u8, flags: u8, word: u64) -> Answer
-    requires { ⌜ (length (now state) ≡ stateWords counts) × (sound counts (stateOf counts (now state)) ≡ true)
-        × (verdict (stateOf counts (now state)) (command.Insert strand side flags word) ≡ Passed) ⌝ }
-    ensures words { λ r. ⌜ now (state .exit) ≡ encode (act (stateOf counts (now (state .entry))) (command.Insert strand side flags word) .state) ⌝ }
-    ensures answer { λ r. ⌜ r ≡ act (stateOf counts (now (state .entry))) (command.Insert strand side flags word) .answer ⌝ }
+    requires { ⌜ Ready (now state) (command.Insert strand side flags word) ⌝ }
+    ensures { λ r. ⌜ Did (now (state .exit)) r
+        (act (stateIn (now (state .entry))) (command.Insert strand side flags word)) ⌝ }
 {
     let new = operands::entry_for(state, strand, side, flags, word);
     let placed = state::insert_side(state, side, new);
@@ -62,9 +59,8 @@ fn act_insert(state: &mut [u64], strand: u8, side: u8, flags: u8, word: u64) -> 
 
 // A demap answers how many entries it removed.
 fn act_demap(state: &mut [u64], side: u8, which: Removal) -> Answer
-    requires { ⌜ (length (now state) ≡ stateWords counts) × (side < 2) ⌝ }
-    ensures words { λ r. ⌜ now (state .exit) ≡ encode (demap (stateOf counts (now (state .entry))) side which .state) ⌝ }
-    ensures answer { λ r. ⌜ r ≡ demap (stateOf counts (now (state .entry))) side which .answer ⌝ }
+    requires { ⌜ Lent (now state) × (side < 2) ⌝ }
+    ensures { λ r. ⌜ Did (now (state .exit)) r (demap (stateIn (now (state .entry))) side which) ⌝ }
 {
     Answer::Done(state::remove_side(state, side, which))
 }
@@ -98,8 +94,8 @@ fn other_set(context: u64) -> u8
 
 // A side's pointer: size 0 is ps0, 1 is ps1. The context of tag access picks the registers.
 fn pointer_of(state: &[u64], strand: u8, side: u8, size: u8) -> u64
-    requires { ⌜ (length (now state) ≡ stateWords counts) × (strand < 4) × (side < 2) × (size < 2) ⌝ }
-    ensures { λ r. ⌜ r ≡ pointer (stateOf counts (now (state .entry)) .registers) strand side size ⌝ }
+    requires { ⌜ Lent (now state) × (strand < 4) × (side < 2) × (size < 2) ⌝ }
+    ensures { λ r. ⌜ r ≡ pointer (stateIn (now (state .entry)) .registers) strand side size ⌝ }
 {
     let tag = operands::tag_of(state, strand, side);
     let other = other_set(tag % 0x2000);
@@ -122,8 +118,8 @@ fn size_code(configuration: u64, size: u8) -> u64
 // What each command does that passed its questions.
 fn act_write(state: &mut [u64], strand: u8, number: u8, value: u64) -> Answer
     requires { ⌜ Ready (now state) (command.Write strand number value) ⌝ }
-    ensures words { λ r. ⌜ now (state .exit) ≡ encode (act (stateOf counts (now (state .entry))) (command.Write strand number value) .state) ⌝ }
-    ensures answer { λ r. ⌜ r ≡ act (stateOf counts (now (state .entry))) (command.Write strand number value) .answer ⌝ }
+    ensures { λ r. ⌜ Did (now (state .exit)) r
+        (act (stateIn (now (state .entry))) (command.Write strand number value)) ⌝ }
 {
     state::write_register(state, strand, number, value);
     Answer::Done(0)
@@ -138,8 +134,8 @@ fn act_demap_page(
     address: u64,
 ) -> Answer
     requires { ⌜ Ready (now state) (command.DemapPage strand side selector flags address) ⌝ }
-    ensures words { λ r. ⌜ now (state .exit) ≡ encode (act (stateOf counts (now (state .entry))) (command.DemapPage strand side selector flags address) .state) ⌝ }
-    ensures answer { λ r. ⌜ r ≡ act (stateOf counts (now (state .entry))) (command.DemapPage strand side selector flags address) .answer ⌝ }
+    ensures { λ r. ⌜ Did (now (state .exit)) r
+        (act (stateIn (now (state .entry))) (command.DemapPage strand side selector flags address)) ⌝ }
 {
     let partition = state::read_register(state, strand, 0);
     let context = operands::selected_context(state, strand, selector);
@@ -149,8 +145,8 @@ fn act_demap_page(
 
 fn act_demap_context(state: &mut [u64], strand: u8, side: u8, selector: u8) -> Answer
     requires { ⌜ Ready (now state) (command.DemapContext strand side selector) ⌝ }
-    ensures words { λ r. ⌜ now (state .exit) ≡ encode (act (stateOf counts (now (state .entry))) (command.DemapContext strand side selector) .state) ⌝ }
-    ensures answer { λ r. ⌜ r ≡ act (stateOf counts (now (state .entry))) (command.DemapContext strand side selector) .answer ⌝ }
+    ensures { λ r. ⌜ Did (now (state .exit)) r
+        (act (stateIn (now (state .entry))) (command.DemapContext strand side selector)) ⌝ }
 {
     let partition = state::read_register(state, strand, 0);
     let context = operands::selected_context(state, strand, selector);
@@ -166,8 +162,7 @@ fn act_demap_context(state: &mut [u64], strand: u8, side: u8, selector: u8) -> A
 
 fn act_demap_all(state: &mut [u64], strand: u8, side: u8) -> Answer
     requires { ⌜ Ready (now state) (command.DemapAll strand side) ⌝ }
-    ensures words { λ r. ⌜ now (state .exit) ≡ encode (act (stateOf counts (now (state .entry))) (command.DemapAll strand side) .state) ⌝ }
-    ensures answer { λ r. ⌜ r ≡ act (stateOf counts (now (state .entry))) (command.DemapAll strand side) .answer ⌝ }
+    ensures { λ r. ⌜ Did (now (state .exit)) r (act (stateIn (now (state .entry))) (command.DemapAll strand side)) ⌝ }
 {
     let partition = state::read_register(state, strand, 0);
     act_demap(
@@ -182,8 +177,7 @@ fn act_demap_all(state: &mut [u64], strand: u8, side: u8) -> Answer
 // No count is answered.
 fn act_invalidate(state: &mut [u64], side: u8) -> Answer
     requires { ⌜ Ready (now state) (command.Invalidate side) ⌝ }
-    ensures words { λ r. ⌜ now (state .exit) ≡ encode (act (stateOf counts (now (state .entry))) (command.Invalidate side) .state) ⌝ }
-    ensures answer { λ r. ⌜ r ≡ act (stateOf counts (now (state .entry))) (command.Invalidate side) .answer ⌝ }
+    ensures { λ r. ⌜ Did (now (state .exit)) r (act (stateIn (now (state .entry))) (command.Invalidate side)) ⌝ }
 {
     state::remove_side(state, side, Removal::Everything);
     Answer::Done(0)
@@ -199,8 +193,8 @@ fn act_access(
     address: VirtualAddress,
 ) -> Answer
     requires { ⌜ Ready (now state) (command.Access strand kind selector size address) ⌝ }
-    ensures words { λ r. ⌜ now (state .exit) ≡ encode (act (stateOf counts (now (state .entry))) (command.Access strand kind selector size address) .state) ⌝ }
-    ensures answer { λ r. ⌜ r ≡ act (stateOf counts (now (state .entry))) (command.Access strand kind selector size address) .answer ⌝ }
+    ensures { λ r. ⌜ Did (now (state .exit)) r
+        (act (stateIn (now (state .entry))) (command.Access strand kind selector size address)) ⌝ }
 {
     let used = access::used_address(state, strand, address);
     access::access_to(
@@ -218,14 +212,14 @@ fn act_access(
 
 fn act_read(state: &[u64], strand: u8, number: u8) -> Answer
     requires { ⌜ Ready (now state) (command.Read strand number) ⌝ }
-    ensures { λ r. ⌜ r ≡ act (stateOf counts (now (state .entry))) (command.Read strand number) .answer ⌝ }
+    ensures { λ r. ⌜ r ≡ act (stateIn (now (state .entry))) (command.Read strand number) .answer ⌝ }
 {
     Answer::Read(state::read_register(state, strand, number), 0)
 }
 
 fn act_pointers(state: &[u64], strand: u8, side: u8) -> Answer
     requires { ⌜ Ready (now state) (command.Pointers strand side) ⌝ }
-    ensures { λ r. ⌜ r ≡ act (stateOf counts (now (state .entry))) (command.Pointers strand side) .answer ⌝ }
+    ensures { λ r. ⌜ r ≡ act (stateIn (now (state .entry))) (command.Pointers strand side) .answer ⌝ }
 {
     Answer::Read(
         pointer_of(state, strand, side, 0),
@@ -235,8 +229,7 @@ fn act_pointers(state: &[u64], strand: u8, side: u8) -> Answer
 
 fn act_command(state: &mut [u64], hints: &mut [u8; 256], command: Command) -> Answer
     requires { ⌜ Ready (now state) command ⌝ }
-    ensures words { λ r. ⌜ now (state .exit) ≡ encode (act (stateOf counts (now (state .entry))) command .state) ⌝ }
-    ensures answer { λ r. ⌜ r ≡ act (stateOf counts (now (state .entry))) command .answer ⌝ }
+    ensures { λ r. ⌜ Did (now (state .exit)) r (act (stateIn (now (state .entry))) command) ⌝ }
 {
     match command {
         Command::Write {
@@ -278,9 +271,8 @@ fn act_command(state: &mut [u64], hints: &mut [u8; 256], command: Command) -> An
 
 // One command: refused by the first question that it fails, or done.
 pub fn execute(state: &mut [u64], hints: &mut [u8; 256], command: Command) -> Answer
-    requires { ⌜ (length (now state) ≡ stateWords counts) × (sound counts (stateOf counts (now state)) ≡ true) ⌝ }
-    ensures words { λ r. ⌜ now (state .exit) ≡ encode (step (stateOf counts (now (state .entry))) command .state) ⌝ }
-    ensures answer { λ r. ⌜ r ≡ step (stateOf counts (now (state .entry))) command .answer ⌝ }
+    requires { ⌜ Lent (now state) × SoundIn (now state) ⌝ }
+    ensures { λ r. ⌜ Did (now (state .exit)) r (step (stateIn (now (state .entry))) command) ⌝ }
 {
     if let Verdict::Refused(refusal) = questions::question(state, command) {
         return Answer::Refused(refusal);

@@ -7,7 +7,7 @@ use lib.ListN.{length, getD}
 use lib.Seq.{ext-getD}
 use Rattle.machine.specs.State.{counts}
 use Rattle.machine.specs.Stream.{Bytes, Outcome, outcome, runOf}
-use Rattle.machine.specs.declared.Run.{Run}
+use Rattle.machine.specs.declared.Report.{Report}
 use Rattle.machine.proofs.Runs.{run-room}
 use Rattle.mmu_stream.specs.Line.{listOf}
 
@@ -29,6 +29,6 @@ table-all f s n e p = ext-getD 0 s (listOf f 0 n) (e ∙ sym (list-of-length f 0
     p k l ∙ sym (list-of-at f n 0 k l ∙ ap f (omega arith)))
 
 -- the answers lie within the output
-pub answers-fit : (words later : List ℕ) (input output filled : Bytes) (r : Run)
+pub answers-fit : (words later : List ℕ) (input output filled : Bytes) (r : Report)
     → outcome later filled r ≡ runOf counts words input output → length filled ≡ length output → r .answered * 24 ≤ length filled
 answers-fit words later input output filled r e h = omega (arith, ap (λ (o : Outcome). o .answered) e, run-room counts words input output)

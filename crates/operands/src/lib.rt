@@ -1,9 +1,9 @@
 // What a command's operands and a strand's registers pick: sides, contexts, keys and new entries.
 ghost use mathlib.Core.Path.{_≡_};
 ghost use Prim.Native.Nat.{_<_};
-ghost use lib.ListN.{length};
 ghost use Rattle.machine.specs.Registers.{selected, tagAccess};
-ghost use Rattle.machine.specs.State.{counts, stateWords, stateOf};
+ghost use Rattle.machine.specs.State.{stateIn};
+ghost use Rattle.state.specs.Calls.{Lent};
 ghost use Rattle.machine.specs.Questions.{kindSide, keyOf, insertion};
 use machine::Key;
 use machine::RealAddress;
@@ -19,8 +19,8 @@ pub fn access_side(kind: u8) -> u8
 
 // The context that a selector picks: primary, secondary, or 0 for the nucleus.
 pub fn selected_context(state: &[u64], strand: u8, selector: u8) -> u64
-    requires { ⌜ (length (now state) ≡ stateWords counts) × (strand < 4) ⌝ }
-    ensures { λ r. ⌜ r ≡ selected (stateOf counts (now (state .entry)) .registers) strand selector ⌝ }
+    requires { ⌜ Lent (now state) × (strand < 4) ⌝ }
+    ensures { λ r. ⌜ r ≡ selected (stateIn (now (state .entry)) .registers) strand selector ⌝ }
 {
     if selector == 2 {
         return 0;
@@ -49,16 +49,16 @@ pub fn key_for(real: bool, partition: u64, context: u64, address: u64) -> Key
 
 // The side's tag access register.
 pub fn tag_of(state: &[u64], strand: u8, side: u8) -> u64
-    requires { ⌜ (length (now state) ≡ stateWords counts) × (strand < 4) × (side < 2) ⌝ }
-    ensures { λ r. ⌜ r ≡ tagAccess (stateOf counts (now (state .entry)) .registers) strand side ⌝ }
+    requires { ⌜ Lent (now state) × (strand < 4) × (side < 2) ⌝ }
+    ensures { λ r. ⌜ r ≡ tagAccess (stateIn (now (state .entry)) .registers) strand side ⌝ }
 {
     state::read_register(state, strand, 20 + side)
 }
 
 // The entry of an insertion, from the strand's partition and tag access.
 pub fn entry_for(state: &[u64], strand: u8, side: u8, flags: u8, word: u64) -> Slot
-    requires { ⌜ (length (now state) ≡ stateWords counts) × (strand < 4) × (side < 2) ⌝ }
-    ensures { λ r. ⌜ r ≡ insertion (stateOf counts (now (state .entry))) strand side flags word ⌝ }
+    requires { ⌜ Lent (now state) × (strand < 4) × (side < 2) ⌝ }
+    ensures { λ r. ⌜ r ≡ insertion (stateIn (now (state .entry))) strand side flags word ⌝ }
 {
     let tag = tag_of(state, strand, side);
     let partition = state::read_register(state, strand, 0);

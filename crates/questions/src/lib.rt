@@ -3,8 +3,8 @@ ghost use mathlib.Core.Path.{_≡_};
 ghost use Prim.Native.Nat.{_<_};
 ghost use mathlib.Core.List.{[], _∷_};
 ghost use lib.Dec.{ltb};
-ghost use lib.ListN.{length};
-ghost use Rattle.machine.specs.State.{counts, stateWords, stateOf};
+ghost use Rattle.machine.specs.State.{stateIn};
+ghost use Rattle.state.specs.Calls.{Lent};
 ghost use Rattle.machine.specs.Questions.{selectorFits, nucleusFetch, sizeFits, question, ask, verdict};
 ghost use Rattle.machine.specs.declared.Command.the-variants as command;
 ghost use Rattle.machine.specs.declared.Refusal.the-variants as refusal;
@@ -41,8 +41,8 @@ fn size_fits(kind: u8, size: u8) -> bool
 
 // Number 7: a user's fetch by the nucleus context.
 fn is_nucleus_fetch(state: &[u64], strand: u8, kind: u8, selector: u8) -> bool
-    requires { ⌜ (length (now state) ≡ stateWords counts) × (strand < 4) ⌝ }
-    ensures { λ r. ⌜ r ≡ nucleusFetch (stateOf counts (now (state .entry)) .registers) strand kind selector ⌝ }
+    requires { ⌜ Lent (now state) × (strand < 4) ⌝ }
+    ensures { λ r. ⌜ r ≡ nucleusFetch (stateIn (now (state .entry)) .registers) strand kind selector ⌝ }
 {
     if kind != 0 {
         return false;
@@ -54,7 +54,7 @@ fn is_nucleus_fetch(state: &[u64], strand: u8, kind: u8, selector: u8) -> bool
 }
 
 fn ask_write(state: &[u64], strand: u8, number: u8, value: u64) -> Verdict
-    ensures { λ r. ⌜ r ≡ verdict (stateOf counts (now (state .entry))) (command.Write strand number value) ⌝ }
+    ensures { λ r. ⌜ r ≡ verdict (stateIn (now (state .entry))) (command.Write strand number value) ⌝ }
 {
     if 4 <= strand {
         return Verdict::Refused(Refusal::Strand);
@@ -69,8 +69,8 @@ fn ask_write(state: &[u64], strand: u8, number: u8, value: u64) -> Verdict
 }
 
 fn ask_insert(state: &[u64], strand: u8, side: u8, flags: u8, word: u64) -> Verdict
-    requires { ⌜ length (now state) ≡ stateWords counts ⌝ }
-    ensures { λ r. ⌜ r ≡ verdict (stateOf counts (now (state .entry))) (command.Insert strand side flags word) ⌝ }
+    requires { ⌜ Lent (now state) ⌝ }
+    ensures { λ r. ⌜ r ≡ verdict (stateIn (now (state .entry))) (command.Insert strand side flags word) ⌝ }
 {
     if 4 <= strand {
         return Verdict::Refused(Refusal::Strand);
@@ -105,7 +105,7 @@ fn ask_demap_page(
     flags: u8,
     address: u64,
 ) -> Verdict
-    ensures { λ r. ⌜ r ≡ verdict (stateOf counts (now (state .entry))) (command.DemapPage strand side selector flags address) ⌝ }
+    ensures { λ r. ⌜ r ≡ verdict (stateIn (now (state .entry))) (command.DemapPage strand side selector flags address) ⌝ }
 {
     if 4 <= strand {
         return Verdict::Refused(Refusal::Strand);
@@ -126,7 +126,7 @@ fn ask_demap_page(
 }
 
 fn ask_demap_context(state: &[u64], strand: u8, side: u8, selector: u8) -> Verdict
-    ensures { λ r. ⌜ r ≡ verdict (stateOf counts (now (state .entry))) (command.DemapContext strand side selector) ⌝ }
+    ensures { λ r. ⌜ r ≡ verdict (stateIn (now (state .entry))) (command.DemapContext strand side selector) ⌝ }
 {
     if 4 <= strand {
         return Verdict::Refused(Refusal::Strand);
@@ -161,8 +161,8 @@ fn ask_access(
     size: u8,
     address: VirtualAddress,
 ) -> Verdict
-    requires { ⌜ length (now state) ≡ stateWords counts ⌝ }
-    ensures { λ r. ⌜ r ≡ verdict (stateOf counts (now (state .entry))) (command.Access strand kind selector size address) ⌝ }
+    requires { ⌜ Lent (now state) ⌝ }
+    ensures { λ r. ⌜ r ≡ verdict (stateIn (now (state .entry))) (command.Access strand kind selector size address) ⌝ }
 {
     if 4 <= strand {
         return Verdict::Refused(Refusal::Strand);
@@ -183,7 +183,7 @@ fn ask_access(
 }
 
 fn ask_read(state: &[u64], strand: u8, number: u8) -> Verdict
-    ensures { λ r. ⌜ r ≡ verdict (stateOf counts (now (state .entry))) (command.Read strand number) ⌝ }
+    ensures { λ r. ⌜ r ≡ verdict (stateIn (now (state .entry))) (command.Read strand number) ⌝ }
 {
     if 4 <= strand {
         return Verdict::Refused(Refusal::Strand);
@@ -195,7 +195,7 @@ fn ask_read(state: &[u64], strand: u8, number: u8) -> Verdict
 }
 
 fn ask_invalidate(state: &[u64], side: u8) -> Verdict
-    ensures { λ r. ⌜ r ≡ verdict (stateOf counts (now (state .entry))) (command.Invalidate side) ⌝ }
+    ensures { λ r. ⌜ r ≡ verdict (stateIn (now (state .entry))) (command.Invalidate side) ⌝ }
 {
     if 2 <= side {
         return Verdict::Refused(Refusal::Side);
@@ -205,8 +205,8 @@ fn ask_invalidate(state: &[u64], side: u8) -> Verdict
 
 // The first question of a command that is answered "no", or that it passed.
 pub fn question(state: &[u64], command: Command) -> Verdict
-    requires { ⌜ length (now state) ≡ stateWords counts ⌝ }
-    ensures { λ r. ⌜ r ≡ verdict (stateOf counts (now (state .entry))) command ⌝ }
+    requires { ⌜ Lent (now state) ⌝ }
+    ensures { λ r. ⌜ r ≡ verdict (stateIn (now (state .entry))) command ⌝ }
 {
     match command {
         Command::Write {

@@ -24,14 +24,14 @@ abbrev part : List ℕ → ℕ → List ℕ
 part words a = take (a + 256 - a) (drop a words)
 
 -- a side of 64 slots from a on
-pub record Lent (words : List ℕ) (side a : ℕ) : Type 0 where
+pub record LentSide (words : List ℕ) (side a : ℕ) : Type 0 where
   pub count : length (part words a) ≡ 256
   pub slots : slotsOf (part words a) ≡ sideOf (stateOf counts words) side
   -- the words once the part is back, with f done to its slots
   pub back : (f : List Slot → List Slot) {lent : List ℕ} → lent ≡ wordsOf (f (slotsOf (part words a)))
       → take a words ++ (lent ++ drop (a + 256 - a) (drop a words)) ≡ encode (withSide (stateOf counts words) side (f (sideOf (stateOf counts words) side)))
 
-pub lent-side : (words : List ℕ) (side a : ℕ) → length words ≡ stateWords counts → side < 2 → a ≡ 128 + side * 256 → Lent words side a
+pub lent-side : (words : List ℕ) (side a : ℕ) → length words ≡ stateWords counts → side < 2 → a ≡ 128 + side * 256 → LentSide words side a
 lent-side words side a l h start =
     let k : ℕ = a + 256 - a in
     let u = stateOf counts words in

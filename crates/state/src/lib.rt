@@ -1,13 +1,13 @@
 // The state as lent words: 128 register cells, then side 0, then side 1, 64 slots each.
 ghost use mathlib.Core.Path.{_≡_};
-ghost use mathlib.Core.Bool.{true};
 ghost use Prim.Native.Nat.{_+_, _*_, _<_};
 ghost use lib.ListN.{length, getD};
 ghost use Rattle.laws.specs.Tests.{count};
 ghost use Rattle.machine.specs.Slots.{noSlot, search, setUsed};
 ghost use Rattle.machine.specs.Insertion.{removed, removes, candidate, inserted, placed, hasSlot};
 ghost use Rattle.machine.specs.Registers.{register, withRegister};
-ghost use Rattle.machine.specs.State.{counts, stateWords, stateOf, encode, sideOf, withSide, withRegisters, sound, wordsSound, resetOf, resetNumber};
+ghost use Rattle.machine.specs.State.{counts, stateIn, encode, sideOf, withSide, withRegisters, sound, wordsSound, resetOf, resetNumber};
+ghost use Rattle.state.specs.Calls.{Lent, SoundIn};
 ghost use Rattle.state.specs.Reset.{resetWord};
 use laws::Found;
 use machine::Key;
@@ -23,17 +23,17 @@ fn cell(strand: u8, number: u8) -> usize
 
 // A strand's register.
 pub fn read_register(state: &[u64], strand: u8, number: u8) -> u64
-    requires { ⌜ (length (now state) ≡ stateWords counts) × (strand < 4) × (number < 32) ⌝ }
-    ensures { λ r. ⌜ r ≡ register (stateOf counts (now (state .entry)) .registers) strand number ⌝ }
+    requires { ⌜ Lent (now state) × (strand < 4) × (number < 32) ⌝ }
+    ensures { λ r. ⌜ r ≡ register (stateIn (now (state .entry)) .registers) strand number ⌝ }
 {
     let at = cell(strand, number);
     state[at]
 }
 
 pub fn write_register(state: &mut [u64], strand: u8, number: u8, value: u64)
-    requires { ⌜ (length (now state) ≡ stateWords counts) × (strand < 4) × (number < 32) ⌝ }
-    ensures { λ r. ⌜ now (state .exit) ≡ encode (withRegisters (stateOf counts (now (state .entry)))
-        (withRegister (stateOf counts (now (state .entry)) .registers) strand number value)) ⌝ }
+    requires { ⌜ Lent (now state) × (strand < 4) × (number < 32) ⌝ }
+    ensures { λ r. ⌜ now (state .exit) ≡ encode (withRegisters (stateIn (now (state .entry)))
+        (withRegister (stateIn (now (state .entry)) .registers) strand number value)) ⌝ }
 {
     let at = cell(strand, number);
     state[at] = value;
@@ -48,8 +48,8 @@ fn side_start(side: u8) -> usize
 
 // The lowest live slot of a side that answers to the key.
 pub fn search_side(state: &[u64], side: u8, key: Key) -> Found
-    requires { ⌜ (length (now state) ≡ stateWords counts) × (side < 2) ⌝ }
-    ensures { λ r. ⌜ r ≡ search key (sideOf (stateOf counts (now (state .entry))) side) ⌝ }
+    requires { ⌜ Lent (now state) × (side < 2) ⌝ }
+    ensures { λ r. ⌜ r ≡ search key (sideOf (stateIn (now (state .entry))) side) ⌝ }
 {
     let start = side_start(side);
     let end = start + 256;
@@ -58,8 +58,8 @@ pub fn search_side(state: &[u64], side: u8, key: Key) -> Found
 
 // Slot i of a side.
 pub fn slot_of(state: &[u64], side: u8, i: usize) -> Slot
-    requires { ⌜ (length (now state) ≡ stateWords counts) × (side < 2) × (i < 64) ⌝ }
-    ensures { λ r. ⌜ r ≡ getD (sideOf (stateOf counts (now (state .entry))) side) i noSlot ⌝ }
+    requires { ⌜ Lent (now state) × (side < 2) × (i < 64) ⌝ }
+    ensures { λ r. ⌜ r ≡ getD (sideOf (stateIn (now (state .entry))) side) i noSlot ⌝ }
 {
     let start = side_start(side);
     let end = start + 256;
@@ -77,8 +77,8 @@ fn hint_place(side: u8, key: Key) -> usize
 // The same as `search_side`, on a sound state. A hint is the slot of an earlier answer, and is not believed: the slot is asked, and where it
 // answers no other does.
 pub fn search_hinted(state: &[u64], hints: &mut [u8; 256], side: u8, key: Key) -> Found
-    requires { ⌜ (length (now state) ≡ stateWords counts) × (side < 2) × (sound counts (stateOf counts (now state)) ≡ true) ⌝ }
-    ensures { λ r. ⌜ r ≡ search key (sideOf (stateOf counts (now (state .entry))) side) ⌝ }
+    requires { ⌜ Lent (now state) × (side < 2) × SoundIn (now state) ⌝ }
+    ensures { λ r. ⌜ r ≡ search key (sideOf (stateIn (now (state .entry))) side) ⌝ }
 {
     let at = hint_place(side, key);
     let hint = (hints[at] % 64) as usize;
@@ -94,9 +94,9 @@ pub fn search_hinted(state: &[u64], hints: &mut [u8; 256], side: u8, key: Key) -
 
 // Sets the used bit of slot i of a side.
 pub fn mark_used(state: &mut [u64], side: u8, i: usize)
-    requires { ⌜ (length (now state) ≡ stateWords counts) × (side < 2) × (i < 64) ⌝ }
-    ensures { λ r. ⌜ now (state .exit) ≡ encode (withSide (stateOf counts (now (state .entry))) side
-        (setUsed i (sideOf (stateOf counts (now (state .entry))) side))) ⌝ }
+    requires { ⌜ Lent (now state) × (side < 2) × (i < 64) ⌝ }
+    ensures { λ r. ⌜ now (state .exit) ≡ encode (withSide (stateIn (now (state .entry))) side
+        (setUsed i (sideOf (stateIn (now (state .entry))) side))) ⌝ }
 {
     let start = side_start(side);
     let end = start + 256;
@@ -105,8 +105,8 @@ pub fn mark_used(state: &mut [u64], side: u8, i: usize)
 
 // Whether a slot of a side is to be had for the new entry (number 13).
 pub fn slot_to_be_had(state: &[u64], side: u8, new: Slot) -> bool
-    requires { ⌜ (length (now state) ≡ stateWords counts) × (side < 2) ⌝ }
-    ensures { λ r. ⌜ r ≡ hasSlot candidate new (sideOf (stateOf counts (now (state .entry))) side) ⌝ }
+    requires { ⌜ Lent (now state) × (side < 2) ⌝ }
+    ensures { λ r. ⌜ r ≡ hasSlot candidate new (sideOf (stateIn (now (state .entry))) side) ⌝ }
 {
     let start = side_start(side);
     let end = start + 256;
@@ -115,10 +115,10 @@ pub fn slot_to_be_had(state: &[u64], side: u8, new: Slot) -> bool
 
 // An insertion on a side.
 pub fn insert_side(state: &mut [u64], side: u8, new: Slot) -> Placed
-    requires { ⌜ (length (now state) ≡ stateWords counts) × (side < 2) ⌝ }
-    ensures words { λ r. ⌜ now (state .exit) ≡ encode (withSide (stateOf counts (now (state .entry))) side
-        (inserted candidate new (sideOf (stateOf counts (now (state .entry))) side))) ⌝ }
-    ensures placed { λ r. ⌜ r ≡ placed candidate new (sideOf (stateOf counts (now (state .entry))) side) ⌝ }
+    requires { ⌜ Lent (now state) × (side < 2) ⌝ }
+    ensures words { λ r. ⌜ now (state .exit) ≡ encode (withSide (stateIn (now (state .entry))) side
+        (inserted candidate new (sideOf (stateIn (now (state .entry))) side))) ⌝ }
+    ensures placed { λ r. ⌜ r ≡ placed candidate new (sideOf (stateIn (now (state .entry))) side) ⌝ }
 {
     let start = side_start(side);
     let end = start + 256;
@@ -127,10 +127,10 @@ pub fn insert_side(state: &mut [u64], side: u8, new: Slot) -> Placed
 
 // A removal on a side, with its count.
 pub fn remove_side(state: &mut [u64], side: u8, which: Removal) -> u64
-    requires { ⌜ (length (now state) ≡ stateWords counts) × (side < 2) ⌝ }
-    ensures words { λ r. ⌜ now (state .exit) ≡ encode (withSide (stateOf counts (now (state .entry))) side
-        (removed (removes which) (sideOf (stateOf counts (now (state .entry))) side))) ⌝ }
-    ensures count { λ r. ⌜ r ≡ count (removes which) (sideOf (stateOf counts (now (state .entry))) side) ⌝ }
+    requires { ⌜ Lent (now state) × (side < 2) ⌝ }
+    ensures words { λ r. ⌜ now (state .exit) ≡ encode (withSide (stateIn (now (state .entry))) side
+        (removed (removes which) (sideOf (stateIn (now (state .entry))) side))) ⌝ }
+    ensures count { λ r. ⌜ r ≡ count (removes which) (sideOf (stateIn (now (state .entry))) side) ⌝ }
 {
     let start = side_start(side);
     let end = start + 256;

@@ -3,16 +3,16 @@ ghost use mathlib.Core.Path.{_≡_};
 ghost use Rattle.machine.specs.State.{counts};
 ghost use Rattle.machine.specs.Stream.{outcome, runOf};
 use machine::Decoded;
-use machine::Run;
+use machine::Report;
 
 // An answer of 24 bytes into the output for every command taken. Every word of the state and every byte of the output is what `runOf`
 // says, whatever the state, the input and the room.
-pub fn run(state: &mut [u64], input: &[u8], output: &mut [u8]) -> Run
+pub fn run(state: &mut [u64], input: &[u8], output: &mut [u8]) -> Report
     ensures { λ r. ⌜ outcome (now (state .exit)) (now (output .exit)) r
         ≡ runOf counts (now (state .entry)) (now (input .entry)) (now (output .entry)) ⌝ }
 {
     if !state::state_sound(state) {
-        return Run {
+        return Report {
             answered: 0,
             taken: 0,
             stop: 1,
@@ -25,7 +25,7 @@ pub fn run(state: &mut [u64], input: &[u8], output: &mut [u8]) -> Run
     while at < input.len() {
         // The room is asked for before the decoding: the decoder's arms then lead straight into the unit's.
         if output.len() / 24 <= answered {
-            return Run {
+            return Report {
                 answered,
                 taken: at,
                 stop: wire::stop_without_room(input, at),
@@ -33,7 +33,7 @@ pub fn run(state: &mut [u64], input: &[u8], output: &mut [u8]) -> Run
         }
         let decoded = wire::command_at(input, at);
         let Decoded::Known(command, width) = decoded else {
-            return Run {
+            return Report {
                 answered,
                 taken: at,
                 stop: wire::stop_number(decoded),
@@ -44,7 +44,7 @@ pub fn run(state: &mut [u64], input: &[u8], output: &mut [u8]) -> Run
         at += width;
         answered += 1;
     }
-    Run {
+    Report {
         answered,
         taken: at,
         stop: 0,

@@ -10,7 +10,7 @@ use Rattle.machine.specs.Places.{slots}
 use Rattle.machine.specs.Reference.{RunTold, ResetTold, returned, Told}
 use Rattle.machine.specs.Demand2.{IsBits, HasBits, Fields}
 use Rattle.machine.specs.Demand3.{Demand3}
-use Rattle.machine.specs.declared.Run.{Run}
+use Rattle.machine.specs.declared.Report.{Report}
 use Rattle.machine.specs.declared.Tte.{Tte}
 use Rattle.machine.proofs.Demand2.{demand2}
 use Rattle.machine.proofs.Demand3.{demand3}
@@ -18,7 +18,7 @@ use Rattle.machine.proofs.Reference.{sold}
 use Rattle.t1mmu.specs.Equal.{Equal}
 
 -- a run that comes to the unit's outcome
-pub run-call : (words : List ℕ) (input output : Bytes) (left : List ℕ) (written : Bytes) (r : Run) → outcome left written r ≡ runOf counts words input output
+pub run-call : (words : List ℕ) (input output : Bytes) (left : List ℕ) (written : Bytes) (r : Report) → outcome left written r ≡ runOf counts words input output
     → RunTold slots words input output left written r × (Equal (runOf counts words input output) left written r × (Told counts slots × Demand3 counts))
 run-call words input output left written r e =
     let equal : Equal (runOf counts words input output) left written r = record {

@@ -4,7 +4,7 @@
 ghost use mathlib.Core.Path.{_≡_};
 ghost use mathlib.Core.Bool.{true};
 ghost use lib.ListN.{length};
-ghost use Rattle.machine.specs.State.{counts, stateWords, resetOf, resetNumber};
+ghost use Rattle.machine.specs.State.{counts, stateLength, resetOf, resetNumber};
 ghost use Rattle.machine.specs.Stream.{runOf};
 ghost use Rattle.machine.specs.Words.{unpacked, packed, fields};
 ghost use Rattle.machine.specs.Places.{slots, referenceStart, referenceWords};
@@ -13,7 +13,7 @@ ghost use Rattle.machine.specs.Demand2.{IsBits, HasBits, Fields};
 ghost use Rattle.machine.specs.Demand3.{Demand3};
 ghost use Rattle.t1mmu.specs.Equal.{Equal};
 ghost use Rattle.t1mmu.specs.Version.{version};
-use machine::Run;
+use machine::Report;
 use machine::Tte;
 
 // The version of these calls: major * 65536 + minor * 256 + patch.
@@ -27,7 +27,7 @@ pub extern "C" fn t1mmu_version() -> u32
 // How many words a state has: those of an empty ledger with its places.
 #[no_mangle]
 pub extern "C" fn t1mmu_state_words() -> usize
-    ensures equal { λ r. ⌜ r ≡ stateWords counts ⌝ }
+    ensures equal { λ r. ⌜ r ≡ stateLength ⌝ }
     ensures told { λ r. ⌜ r ≡ length (referenceWords (referenceStart slots)) ⌝ }
 {
     640
@@ -46,7 +46,7 @@ pub extern "C" fn t1mmu_reset(state: &mut [u64]) -> u8
 // Runs the commands of the input on the state. `told` holds it to the ledger with its places, in no word of the unit; `equal` to the unit's
 // definition, of which `lists` says the same over every list of runs, and `demand3` what document 01's demand 3 asks.
 #[no_mangle]
-pub extern "C" fn t1mmu_run(state: &mut [u64], input: &[u8], output: &mut [u8]) -> Run
+pub extern "C" fn t1mmu_run(state: &mut [u64], input: &[u8], output: &mut [u8]) -> Report
     ensures told { λ r. ⌜ RunTold slots (now (state .entry)) (now (input .entry)) (now (output .entry))
         (now (state .exit)) (now (output .exit)) r ⌝ }
     ensures equal { λ r. ⌜ Equal (runOf counts (now (state .entry)) (now (input .entry)) (now (output .entry)))

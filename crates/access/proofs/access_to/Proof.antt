@@ -11,9 +11,6 @@ prepare-access-requires c κs =
     let s = c .before .before in
     (s .pre .0, s .pre .1, s .pre .2, sound-registers counts _ (s .pre .3))
 
-enum-known-prepared : tie.Need-enum-known-prepared
-enum-known-prepared c = search needs
-
 take-trap-requires : tie.Need-take-trap-requires
 take-trap-requires c κs =
     let at = c .before .before in
@@ -22,35 +19,18 @@ take-trap-requires c κs =
     let fits = rw (at .prepared .given .1) at (prepare .prepare-access .ensures .1) in
     (s .pre .0, s .pre .1, fits .0, fits .1)
 
-enum-known-prepared-2 : tie.Need-enum-known-prepared-2
-enum-known-prepared-2 c = search needs
-
-enum-known-prepared-3 : tie.Need-enum-known-prepared-3
-enum-known-prepared-3 c = search needs
-
-look-up-requires : tie.Need-look-up-requires
-look-up-requires c κs = search needs
-
-same-length : tie.Need-same-length
-same-length c = search needs
-
 returns : tie.Need-returns
 returns c =
     let call = c .before .before in
     let at = call .before .before .before in
     rw (sym (at .before .before .prepare-access .ensures .0) ∙ at .prepared .given .1) (call .take-trap .ensures)
 
-same-length-2 : tie.Need-same-length-2
-same-length-2 c = search needs
-
 returns-2 : tie.Need-returns-2
 returns-2 c =
     let at = c .before in
     let s = at .before .before .before .before .before in
-    rw (sym (at .before .before .prepare-access .ensures .0) ∙ at .prepared2 .given .1) (sym (encode-state counts (s .args .state .now) (s .pre .0)), refl)
-
-same-length-3 : tie.Need-same-length-3
-same-length-3 c = search needs
+    rw (sym (at .before .before .prepare-access .ensures .0) ∙ at .prepared2 .given .1)
+    (record { words = sym (encode-state counts (s .args .state .now) (s .pre .0)); answer = refl })
 
 returns-3 : tie.Need-returns-3
 returns-3 c =
@@ -63,14 +43,14 @@ access-to-spec =
     tie.close
     (tie.spec
     prepare-access-requires
-    enum-known-prepared
+    (λ c. search needs)
     take-trap-requires
-    enum-known-prepared-2
-    enum-known-prepared-3
-    look-up-requires
-    same-length
+    (λ c. search needs)
+    (λ c. search needs)
+    (λ c κs. search needs)
+    (λ c. search needs)
     returns
-    same-length-2
+    (λ c. search needs)
     returns-2
-    same-length-3
+    (λ c. search needs)
     returns-3)

@@ -12,9 +12,6 @@ use Rattle.access.proofs.aligned.Tie as tie
 shifted : (size : ℕ) → size < 64 → 1 * 2 ^ size % 2 ^ 64 ≡ 2 ^ size
 shifted size h = shl-exact 1 size 64 (lit< tt) (omega arith) ∙ omega arith
 
-shl-result : tie.Need-shl-result
-shl-result c = search needs
-
 rem-result : tie.Need-rem-result
 rem-result c = omega (arith, shifted (c .before .args .size) (c .before .pre), pow-pos (c .before .args .size))
 
@@ -22,4 +19,4 @@ returns : tie.Need-returns
 returns c = ap (λ (d : ℕ). eqb (c .before .args .used .0 % d) 0) (shifted (c .before .args .size) (c .before .pre))
 
 pub aligned-spec : {M : Type 1} → statement M
-aligned-spec = tie.close (tie.spec shl-result rem-result returns)
+aligned-spec = tie.close (tie.spec (λ c. search needs) rem-result returns)

@@ -14,17 +14,8 @@ use Rattle.access.proofs.bypass_translation.Tie as tie
 counts-up : (b : ℕ) → b < 2 → 1 + b ≡ cond (eqb b 0) 1 2
 counts-up b h = by-test (eqb b 0) (λ e. rw e (omega (arith, eqb-true b 0 e))) (λ e. rw e (omega (arith, eqb-false b 0 e)))
 
-bypass-requires : tie.Need-bypass-requires
-bypass-requires c κs = search needs
-
-bit-of-requires : tie.Need-bit-of-requires
-bit-of-requires c κs = search needs
-
-add-t4 : tie.Need-add-t4
-add-t4 c = search needs
-
 returns : tie.Need-returns
 returns c = rw (c .before .bypass .ensures, c .bit-of .ensures, counts-up (bits 39 1 (c .before .before .args .used .0)) (omega arith))
 
 pub bypass-translation-spec : {M : Type 1} → statement M
-bypass-translation-spec = tie.close (tie.spec bypass-requires bit-of-requires add-t4 returns)
+bypass-translation-spec = tie.close (tie.spec (λ c κs. search needs) (λ c κs. search needs) (λ c. search needs) returns)

@@ -12,9 +12,6 @@ use Rattle.machine.specs.Access.{faultType}
 use Rattle.access.proofs.fault_of.Statement.{statement}
 use Rattle.access.proofs.fault_of.Tie as tie
 
-is-faultless-requires : tie.Need-is-faultless-requires
-is-faultless-requires c κs = search needs
-
 abbrev set : ℕ → ℕ → Bool
 set word k = eqb (bits k 1 word) 1
 
@@ -36,39 +33,6 @@ none mode kind word h =
 
 returns : tie.Need-returns
 returns c = (sym (none _ _ _ (sym (c .before .is-faultless .ensures) ∙ c .if1 .taken)), omega arith)
-
-bit-of-requires : tie.Need-bit-of-requires
-bit-of-requires c κs = search needs
-
-share-requires : tie.Need-share-requires
-share-requires c κs = search needs
-
-bit-of-requires-2 : tie.Need-bit-of-requires-2
-bit-of-requires-2 c κs = search needs
-
-share-requires-2 : tie.Need-share-requires-2
-share-requires-2 c κs = search needs
-
-bit-of-requires-3 : tie.Need-bit-of-requires-3
-bit-of-requires-3 c κs = search needs
-
-share-requires-3 : tie.Need-share-requires-3
-share-requires-3 c κs = search needs
-
-bit-of-requires-4 : tie.Need-bit-of-requires-4
-bit-of-requires-4 c κs = search needs
-
-share-requires-4 : tie.Need-share-requires-4
-share-requires-4 c κs = search needs
-
-add-result : tie.Need-add-result
-add-result c = search needs
-
-add-result-2 : tie.Need-add-result-2
-add-result-2 c = search needs
-
-add-result-3 : tie.Need-add-result-3
-add-result-3 c = search needs
 
 returns-2 : tie.Need-returns-2
 unfolding faultType
@@ -93,17 +57,17 @@ pub fault-of-spec : {M : Type 1} → statement M
 fault-of-spec =
     tie.close
     (tie.spec
-    is-faultless-requires
+    (λ c κs. search needs)
     returns
-    bit-of-requires
-    share-requires
-    bit-of-requires-2
-    share-requires-2
-    bit-of-requires-3
-    share-requires-3
-    bit-of-requires-4
-    share-requires-4
-    add-result
-    add-result-2
-    add-result-3
+    (λ c κs. search needs)
+    (λ c κs. search needs)
+    (λ c κs. search needs)
+    (λ c κs. search needs)
+    (λ c κs. search needs)
+    (λ c κs. search needs)
+    (λ c κs. search needs)
+    (λ c κs. search needs)
+    (λ c. search needs)
+    (λ c. search needs)
+    (λ c. search needs)
     returns-2)

@@ -4,22 +4,13 @@ use borrow.Author.Tests.{eq-eqb, ne-eqb}
 use Rattle.access.proofs.is_faultless.Statement.{statement}
 use Rattle.access.proofs.is_faultless.Tie as tie
 
-bit-of-requires : tie.Need-bit-of-requires
-bit-of-requires c κs = search needs
-
 returns : tie.Need-returns
 returns c = rw (← (c .before .bit-of .ensures), eq-eqb _ _ (c .if1 .taken))
-
-bit-of-requires-2 : tie.Need-bit-of-requires-2
-bit-of-requires-2 c κs = search needs
 
 returns-2 : tie.Need-returns-2
 returns-2 c =
     let one = c .before .before in
     rw (← (one .before .bit-of .ensures), ne-eqb _ _ (one .if1 .left), ← (c .before .bit-of2 .ensures), eq-eqb _ _ (c .if2 .taken))
-
-bit-of-requires-3 : tie.Need-bit-of-requires-3
-bit-of-requires-3 c κs = search needs
 
 returns-3 : tie.Need-returns-3
 returns-3 c =
@@ -33,9 +24,6 @@ returns-3 c =
       ← (c .before .bit-of3 .ensures),
       eq-eqb _ _ (c .if3 .taken),
     )
-
-bit-of-requires-4 : tie.Need-bit-of-requires-4
-bit-of-requires-4 c κs = search needs
 
 returns-4 : tie.Need-returns-4
 returns-4 c =
@@ -56,11 +44,11 @@ pub is-faultless-spec : {M : Type 1} → statement M
 is-faultless-spec =
     tie.close
     (tie.spec
-    bit-of-requires
+    (λ c κs. search needs)
     returns
-    bit-of-requires-2
+    (λ c κs. search needs)
     returns-2
-    bit-of-requires-3
+    (λ c κs. search needs)
     returns-3
-    bit-of-requires-4
+    (λ c κs. search needs)
     returns-4)

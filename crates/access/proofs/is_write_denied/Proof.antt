@@ -7,9 +7,6 @@ use Rattle.laws.proofs.Bools.{by-test}
 use Rattle.access.proofs.is_write_denied.Statement.{statement}
 use Rattle.access.proofs.is_write_denied.Tie as tie
 
-bit-of-requires : tie.Need-bit-of-requires
-bit-of-requires c κs = search needs
-
 returns : tie.Need-returns
 returns c =
     let k = c .before .before .before .args .kind in
@@ -24,4 +21,4 @@ returns-3 : tie.Need-returns-3
 returns-3 c = rw (ne-eqb (c .before .before .args .kind) 2 (λ e. omega arith), ne-eqb (c .before .before .args .kind) 3 (λ e. omega arith))
 
 pub is-write-denied-spec : {M : Type 1} → statement M
-is-write-denied-spec = tie.close (tie.spec bit-of-requires returns returns-2 returns-3)
+is-write-denied-spec = tie.close (tie.spec (λ c κs. search needs) returns returns-2 returns-3)

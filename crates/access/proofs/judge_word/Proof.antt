@@ -6,15 +6,6 @@ use Rattle.machine.specs.Access.{judge}
 use Rattle.access.proofs.judge_word.Statement.{statement}
 use Rattle.access.proofs.judge_word.Tie as tie
 
-read-register-requires : tie.Need-read-register-requires
-read-register-requires c κs = search needs
-
-fault-of-requires : tie.Need-fault-of-requires
-fault-of-requires c κs = search needs
-
-exception-of-requires : tie.Need-exception-of-requires
-exception-of-requires c κs = search needs
-
 returns : tie.Need-returns
 unfolding judge
 returns c =
@@ -22,9 +13,6 @@ returns c =
       rw (← (fault .before .read-register .ensures), ← (fault .fault-of .ensures .0), ne-eqb _ _ (c .before .if1 .taken), c .exception-of .ensures .0),
       omega (arith, c .exception-of .ensures .1, fault .fault-of .ensures .1),
     )
-
-is-write-denied-requires : tie.Need-is-write-denied-requires
-is-write-denied-requires c κs = search needs
 
 returns-2 : tie.Need-returns-2
 unfolding judge
@@ -40,30 +28,6 @@ returns-2 c =
       ),
       omega arith,
     )
-
-physical-address-requires : tie.Need-physical-address-requires
-physical-address-requires c κs = search needs
-
-bit-of-requires : tie.Need-bit-of-requires
-bit-of-requires c κs = search needs
-
-bit-of-requires-2 : tie.Need-bit-of-requires-2
-bit-of-requires-2 c κs = search needs
-
-mul-t12 : tie.Need-mul-t12
-mul-t12 c = search needs
-
-add-t13 : tie.Need-add-t13
-add-t13 c = search needs
-
-bit-of-requires-3 : tie.Need-bit-of-requires-3
-bit-of-requires-3 c κs = search needs
-
-mul-t15 : tie.Need-mul-t15
-mul-t15 c = search needs
-
-add-t16 : tie.Need-add-t16
-add-t16 c = search needs
 
 returns-3 : tie.Need-returns-3
 unfolding judge
@@ -90,18 +54,18 @@ pub judge-word-spec : {M : Type 1} → statement M
 judge-word-spec =
     tie.close
     (tie.spec
-    read-register-requires
-    fault-of-requires
-    exception-of-requires
+    (λ c κs. search needs)
+    (λ c κs. search needs)
+    (λ c κs. search needs)
     returns
-    is-write-denied-requires
+    (λ c κs. search needs)
     returns-2
-    physical-address-requires
-    bit-of-requires
-    bit-of-requires-2
-    mul-t12
-    add-t13
-    bit-of-requires-3
-    mul-t15
-    add-t16
+    (λ c κs. search needs)
+    (λ c κs. search needs)
+    (λ c κs. search needs)
+    (λ c. search needs)
+    (λ c. search needs)
+    (λ c κs. search needs)
+    (λ c. search needs)
+    (λ c. search needs)
     returns-3)

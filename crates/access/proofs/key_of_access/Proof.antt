@@ -4,18 +4,6 @@ use borrow.Author.Needs.{needs}
 use Rattle.access.proofs.key_of_access.Statement.{statement}
 use Rattle.access.proofs.key_of_access.Tie as tie
 
-translation-on-requires : tie.Need-translation-on-requires
-translation-on-requires c κs = search needs
-
-read-register-requires : tie.Need-read-register-requires
-read-register-requires c κs = search needs
-
-selected-context-requires : tie.Need-selected-context-requires
-selected-context-requires c κs = search needs
-
-key-for-requires : tie.Need-key-for-requires
-key-for-requires c κs = search needs
-
 returns : tie.Need-returns
 returns c =
     c .key-for .ensures
@@ -25,8 +13,8 @@ pub key-of-access-spec : {M : Type 1} → statement M
 key-of-access-spec =
     tie.close
     (tie.spec
-    translation-on-requires
-    read-register-requires
-    selected-context-requires
-    key-for-requires
+    (λ c κs. search needs)
+    (λ c κs. search needs)
+    (λ c κs. search needs)
+    (λ c κs. search needs)
     returns)

@@ -5,7 +5,7 @@ use borrow.Author.Needs.{needs}
 use Rattle.laws.proofs.Walks.{found-at}
 use Rattle.machine.specs.Questions.{kindSide}
 use Rattle.machine.specs.Slots.{noSlot, answersTo, search as lookup}
-use Rattle.machine.specs.State.{counts, State, stateOf, sideOf}
+use Rattle.machine.specs.State.{counts, State, stateIn, sideOf}
 use Rattle.machine.proofs.State.{kind-side, sound-registers}
 use Rattle.state.proofs.Lent.{side-slots}
 use Rattle.access.proofs.look_up.Statement.{statement}
@@ -14,26 +14,20 @@ use Rattle.access.proofs.look_up.Tie as tie
 -- what the search of the access's side found
 found : (c : tie.After-search-hinted)
     → (let s = c .before .before .before .before .before in
-    lookup (s .args .key) (sideOf (stateOf counts (s .args .state .now)) (kindSide (s .args .a .kind))) ≡ c .search-hinted .result)
+    lookup (s .args .key) (sideOf (stateIn (s .args .state .now)) (kindSide (s .args .a .kind))) ≡ c .search-hinted .result)
 found c = sym (c .search-hinted .ensures ∙ rw (c .before .access-side .ensures))
-
-access-side-requires : tie.Need-access-side-requires
-access-side-requires c κs = search needs
 
 search-hinted-requires : tie.Need-search-hinted-requires
 search-hinted-requires c κs =
     let s = c .before .before .before .before in
     (s .pre .0, omega (arith, c .access-side .ensures, kind-side (s .args .a .kind)), s .pre .2)
 
-enum-known-found : tie.Need-enum-known-found
-enum-known-found c = search needs
-
 settle-hit-requires : tie.Need-settle-hit-requires
 settle-hit-requires c κs =
     let at = c .before .before in
     let look = at .before .before in
     let s = look .before .before .before .before .before in
-    let u : State = stateOf counts (s .args .state .now) in
+    let u : State = stateIn (s .args .state .now) in
     let side = kindSide (s .args .a .kind) in
     let i = found-at noSlot (answersTo (s .args .key)) (sideOf u side) _ (found look ∙ at .found .given .1) .0 in
     (s .pre .0, s .pre .1, omega (arith, i, side-slots (s .args .state .now) (s .pre .0) side), sound-registers counts u (s .pre .2))
@@ -46,17 +40,11 @@ settle-miss-requires c κs =
     let s = c .before .before .before .before .before .before .before .before in
     (s .pre .0, s .pre .1, sound-registers counts _ (s .pre .2))
 
-same-length : tie.Need-same-length
-same-length c = search needs
-
 returns : tie.Need-returns
 returns c =
     let call = c .before .before in
     let at = call .before .before .before in
     rw (found (at .before .before) ∙ at .found .given .1) (call .settle-hit .ensures)
-
-same-length-2 : tie.Need-same-length-2
-same-length-2 c = search needs
 
 returns-2 : tie.Need-returns-2
 returns-2 c =
@@ -68,13 +56,13 @@ pub look-up-spec : {M : Type 1} → statement M
 look-up-spec =
     tie.close
     (tie.spec
-    access-side-requires
+    (λ c κs. search needs)
     search-hinted-requires
-    enum-known-found
+    (λ c. search needs)
     settle-hit-requires
     enum-told
     settle-miss-requires
-    same-length
+    (λ c. search needs)
     returns
-    same-length-2
+    (λ c. search needs)
     returns-2)

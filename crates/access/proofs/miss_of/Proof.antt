@@ -6,9 +6,6 @@ use borrow.Author.Tests.{eq-eqb, ne-eqb}
 use Rattle.access.proofs.miss_of.Statement.{statement}
 use Rattle.access.proofs.miss_of.Tie as tie
 
-translation-on-requires : tie.Need-translation-on-requires
-translation-on-requires c κs = search needs
-
 returns : tie.Need-returns
 returns c = (rw (sym (c .before .before .before .translation-on .ensures) ∙ c .before .before .if1 .taken, eq-eqb _ _ (c .if2 .taken)), omega arith)
 
@@ -22,4 +19,4 @@ returns-4 : tie.Need-returns-4
 returns-4 c = (rw (sym (c .before .before .before .translation-on .ensures) ∙ c .before .before .if1 .left, ne-eqb _ _ (c .if3 .left)), omega arith)
 
 pub miss-of-spec : {M : Type 1} → statement M
-miss-of-spec = tie.close (tie.spec translation-on-requires returns returns-2 returns-3 returns-4)
+miss-of-spec = tie.close (tie.spec (λ c κs. search needs) returns returns-2 returns-3 returns-4)

@@ -6,18 +6,9 @@ use Rattle.machine.specs.Access.{prepare}
 use Rattle.access.proofs.prepare_access.Statement.{statement}
 use Rattle.access.proofs.prepare_access.Tie as tie
 
-aligned-requires : tie.Need-aligned-requires
-aligned-requires c κs = search needs
-
 returns : tie.Need-returns
 unfolding prepare
 returns c = (rw (← (c .before .aligned .ensures), c .if1 .taken), (omega arith, tt))
-
-read-register-requires : tie.Need-read-register-requires
-read-register-requires c κs = search needs
-
-is-user-nucleus-requires : tie.Need-is-user-nucleus-requires
-is-user-nucleus-requires c κs = search needs
 
 returns-2 : tie.Need-returns-2
 unfolding prepare
@@ -25,9 +16,6 @@ returns-2 c =
     let read = c .before .before in
     let one = read .before in
     (rw (← (one .before .aligned .ensures), one .if1 .left, ← (read .read-register .ensures), ← (c .before .is-user-nucleus .ensures), c .if2 .taken), (omega arith, tt))
-
-bypass-translation-requires : tie.Need-bypass-translation-requires
-bypass-translation-requires c κs = search needs
 
 returns-3 : tie.Need-returns-3
 unfolding prepare
@@ -46,15 +34,6 @@ returns-3 c =
       ),
       tt,
     )
-
-in-range-requires : tie.Need-in-range-requires
-in-range-requires c κs = search needs
-
-exception-of-requires : tie.Need-exception-of-requires
-exception-of-requires c κs = search needs
-
-tag-written-requires : tie.Need-tag-written-requires
-tag-written-requires c κs = search needs
 
 returns-4 : tie.Need-returns-4
 unfolding prepare
@@ -78,9 +57,6 @@ returns-4 c =
       ),
       (omega (arith, c .before .exception-of .ensures .1), c .tag-written .ensures .1),
     )
-
-key-of-access-requires : tie.Need-key-of-access-requires
-key-of-access-requires c κs = search needs
 
 returns-5 : tie.Need-returns-5
 unfolding prepare
@@ -108,16 +84,16 @@ pub prepare-access-spec : {M : Type 1} → statement M
 prepare-access-spec =
     tie.close
     (tie.spec
-    aligned-requires
+    (λ c κs. search needs)
     returns
-    read-register-requires
-    is-user-nucleus-requires
+    (λ c κs. search needs)
+    (λ c κs. search needs)
     returns-2
-    bypass-translation-requires
+    (λ c κs. search needs)
     returns-3
-    in-range-requires
-    exception-of-requires
-    tag-written-requires
+    (λ c κs. search needs)
+    (λ c κs. search needs)
+    (λ c κs. search needs)
     returns-4
-    key-of-access-requires
+    (λ c κs. search needs)
     returns-5)

@@ -6,7 +6,7 @@ use borrow.Author.Needs.{needs}
 use Rattle.machine.specs.Access.{judge}
 use Rattle.machine.specs.Questions.{kindSide}
 use Rattle.machine.specs.Slots.{noSlot, setUsed}
-use Rattle.machine.specs.State.{counts, State, stateOf, sideOf, withSide}
+use Rattle.machine.specs.State.{counts, State, stateIn, sideOf, withSide}
 use Rattle.machine.proofs.State.{kind-side}
 use Rattle.state.proofs.Parts.{sized-words, sized-side, sized-with-side}
 use Rattle.access.proofs.Laws.{left-back}
@@ -16,13 +16,13 @@ use Rattle.access.proofs.settle_hit.Tie as tie
 -- the state with the found entry marked
 marked : (c : tie.After-mark-used)
     → (let s = c .before .before .before .before .before .before .before in
-    let u = stateOf counts (s .args .state .now) in
+    let u = stateIn (s .args .state .now) in
     let side = kindSide (s .args .a .kind) in
-    stateOf counts (c .mark-used .last .0) ≡ withSide u side (setUsed (s .args .i) (sideOf u side)))
+    stateIn (c .mark-used .last .0) ≡ withSide u side (setUsed (s .args .i) (sideOf u side)))
 marked c =
     let access = c .before .before .before .before .before in
     let s = access .before .before in
-    let u : State = stateOf counts (s .args .state .now) in
+    let u : State = stateIn (s .args .state .now) in
     let side = kindSide (s .args .a .kind) in
     let z = sized-words counts (s .args .state .now) (s .pre .0) in
     let l = length-set (sideOf u side) (s .args .i) _ ∙ sized-side counts u z side in
@@ -31,26 +31,17 @@ marked c =
 -- what the found entry's word says
 verdict : (c : tie.After-judge-word)
     → (let s = c .before .before .before .before .before in
-    let u = stateOf counts (s .args .state .now) in
+    let u = stateIn (s .args .state .now) in
     judge (u .registers) (s .args .a) (getD (sideOf u (kindSide (s .args .a .kind))) (s .args .i) noSlot .word) ≡ c .judge-word .result)
 verdict c =
     let slot = c .before in
     sym (c .judge-word .ensures .0 ∙ rw (slot .slot-of .ensures, slot .before .before .access-side .ensures))
 
-access-side-requires : tie.Need-access-side-requires
-access-side-requires c κs = search needs
-
 slot-of-requires : tie.Need-slot-of-requires
 slot-of-requires c κs = omega (arith, kind-side (c .before .before .before .args .a .kind))
 
-judge-word-requires : tie.Need-judge-word-requires
-judge-word-requires c κs = search needs
-
 mark-used-requires : tie.Need-mark-used-requires
 mark-used-requires c κs = omega (arith, kind-side (c .before .before .before .before .before .before .args .a .kind))
-
-enum-known-judged : tie.Need-enum-known-judged
-enum-known-judged c = search needs
 
 take-tagged-requires : tie.Need-take-tagged-requires
 take-tagged-requires c κs =
@@ -60,12 +51,6 @@ take-tagged-requires c κs =
     let s = judge .before .before .before .before .before in
     (omega arith, s .pre .1, rw (judged .judged .given .1) at (judge .judge-word .ensures .1), rw (marked mark) (s .pre .3))
 
-enum-known-judged-2 : tie.Need-enum-known-judged-2
-enum-known-judged-2 c = search needs
-
-same-length : tie.Need-same-length
-same-length c = search needs
-
 returns : tie.Need-returns
 returns c =
     let call = c .before .before in
@@ -73,27 +58,26 @@ returns c =
     let mark = judged .before .before .before .before in
     rw (verdict (mark .before .before) ∙ judged .judged .given .1) (rw (marked mark) at (call .take-tagged .ensures))
 
-same-length-2 : tie.Need-same-length-2
-same-length-2 c = search needs
-
 returns-2 : tie.Need-returns-2
 returns-2 c =
     let judged = c .before in
     let mark = judged .before .before .before .before in
-    rw (verdict (mark .before .before) ∙ judged .judged2 .given .1) (rw (mark .before .before .before .before .before .access-side .ensures) at (mark .mark-used .ensures), refl)
+    let access = mark .before .before .before .before .before in
+    rw (verdict (mark .before .before) ∙ judged .judged2 .given .1)
+    (record { words = rw (access .access-side .ensures) at (mark .mark-used .ensures); answer = refl })
 
 pub settle-hit-spec : {M : Type 1} → statement M
 settle-hit-spec =
     tie.close
     (tie.spec
-    access-side-requires
+    (λ c κs. search needs)
     slot-of-requires
-    judge-word-requires
+    (λ c κs. search needs)
     mark-used-requires
-    enum-known-judged
+    (λ c. search needs)
     take-tagged-requires
-    enum-known-judged-2
-    same-length
+    (λ c. search needs)
+    (λ c. search needs)
     returns
-    same-length-2
+    (λ c. search needs)
     returns-2)

@@ -3,37 +3,28 @@ use mathlib.Core.Path.{_∙_}
 use native.Mathlib.Omega.{arith}
 use borrow.Author.Needs.{needs}
 use Rattle.machine.specs.Access.{trapRegisters}
-use Rattle.machine.specs.State.{counts, State, stateOf}
+use Rattle.machine.specs.State.{counts, State, stateIn}
 use Rattle.machine.proofs.State.{kind-side}
 use Rattle.state.proofs.Parts.{sized-words}
 use Rattle.access.proofs.Laws.{registers-back, trap-length}
 use Rattle.access.proofs.take_trap.Statement.{statement}
 use Rattle.access.proofs.take_trap.Tie as tie
 
-write-trap-requires : tie.Need-write-trap-requires
-write-trap-requires c κs = search needs
-
-access-side-requires : tie.Need-access-side-requires
-access-side-requires c κs = search needs
-
 tag-of-requires : tie.Need-tag-of-requires
 tag-of-requires c κs = omega (arith, kind-side (c .before .before .before .before .before .before .before .before .args .a .kind))
-
-same-length : tie.Need-same-length
-same-length c = search needs
 
 returns : tie.Need-returns
 returns c =
     let call = c .before .before .before .before .before .before in
     let start = call .before .before .before in
     let a = start .args .a in
-    let u : State = stateOf counts (start .args .state .now) in
+    let u : State = stateIn (start .args .state .now) in
     let z = sized-words counts (start .args .state .now) (start .pre .0) in
     let l = trap-length (u .registers) a (start .args .trap) (start .args .tag) ∙ z .0 in
     let back = registers-back u z (trapRegisters (u .registers) a (start .args .trap) (start .args .tag)) l (call .write-trap .ensures) in
-    (call .write-trap .ensures, rw (c .tag-of .ensures, back, c .before .access-side .ensures))
+    record { words = call .write-trap .ensures; answer = rw (c .tag-of .ensures, back, c .before .access-side .ensures) }
 
 pub take-trap-spec : {M : Type 1} → statement M
 take-trap-spec =
     tie.close
-    (tie.spec write-trap-requires access-side-requires tag-of-requires same-length returns)
+    (tie.spec (λ c κs. search needs) (λ c κs. search needs) tag-of-requires (λ c. search needs) returns)

@@ -5,15 +5,6 @@ use Rattle.machine.proofs.State.{kind-side}
 use Rattle.access.proofs.translation_on.Statement.{statement}
 use Rattle.access.proofs.translation_on.Tie as tie
 
-read-register-requires : tie.Need-read-register-requires
-read-register-requires c κs = search needs
-
-access-side-requires : tie.Need-access-side-requires
-access-side-requires c κs = search needs
-
-cast-bit-of : tie.Need-cast-bit-of
-cast-bit-of c = search needs
-
 bit-of-requires : tie.Need-bit-of-requires
 bit-of-requires c κs = omega (arith, kind-side (c .before .before .before .args .a .kind))
 
@@ -23,4 +14,4 @@ returns c = rw (c .bit-of .ensures, c .before .access-side .ensures, c .before .
 pub translation-on-spec : {M : Type 1} → statement M
 translation-on-spec =
     tie.close
-    (tie.spec read-register-requires access-side-requires cast-bit-of bit-of-requires returns)
+    (tie.spec (λ c κs. search needs) (λ c κs. search needs) (λ c. search needs) bit-of-requires returns)

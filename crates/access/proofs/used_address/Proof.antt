@@ -4,14 +4,8 @@ use borrow.Author.Tests.{eq-eqb, ne-eqb, lt-ltb, le-ltb}
 use Rattle.access.proofs.used_address.Statement.{statement}
 use Rattle.access.proofs.used_address.Tie as tie
 
-read-register-requires : tie.Need-read-register-requires
-read-register-requires c κs = search needs
-
 returns : tie.Need-returns
 returns c = rw (← (c .before .read-register .ensures), ne-eqb _ _ (c .if1 .taken))
-
-read-register-requires-2 : tie.Need-read-register-requires-2
-read-register-requires-2 c κs = search needs
 
 returns-2 : tie.Need-returns-2
 returns-2 c =
@@ -27,4 +21,4 @@ returns-3 c =
 pub used-address-spec : {M : Type 1} → statement M
 used-address-spec =
     tie.close
-    (tie.spec read-register-requires returns read-register-requires-2 returns-2 returns-3)
+    (tie.spec (λ c κs. search needs) returns (λ c κs. search needs) returns-2 returns-3)

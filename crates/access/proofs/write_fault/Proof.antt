@@ -8,33 +8,18 @@ use borrow.Author.Needs.{needs}
 use Rattle.machine.specs.Access.{trapRegisters}
 use Rattle.machine.specs.Questions.{kindSide}
 use Rattle.machine.specs.Registers.{withRegister}
-use Rattle.machine.specs.State.{counts, State, stateOf}
+use Rattle.machine.specs.State.{counts, State, stateIn}
 use Rattle.state.proofs.Parts.{sized-words}
 use Rattle.machine.proofs.Looks.{number-small}
 use Rattle.access.proofs.Laws.{written-more}
 use Rattle.access.proofs.write_fault.Statement.{statement}
 use Rattle.access.proofs.write_fault.Tie as tie
 
-write-side-requires : tie.Need-write-side-requires
-write-side-requires c κs = search needs
-
-trap-number-requires : tie.Need-trap-number-requires
-trap-number-requires c κs = search needs
-
 mul-write-side : tie.Need-mul-write-side
 mul-write-side c = omega (arith, number-small (c .before .before .before .before .before .before .before .args .trap))
 
-trap-fault-requires : tie.Need-trap-fault-requires
-trap-fault-requires c κs = search needs
-
 add-write-side : tie.Need-add-write-side
 add-write-side c = omega (arith, number-small (c .before .before .before .before .before .before .before .before .args .trap))
-
-write-side-requires-2 : tie.Need-write-side-requires-2
-write-side-requires-2 c κs = search needs
-
-same-length : tie.Need-same-length
-same-length c = search needs
 
 returns : tie.Need-returns
 unfolding trapRegisters
@@ -44,7 +29,7 @@ returns c =
     let one = number .before .before .before .before in
     let s = one .before .before .before in
     let a = s .args .a in
-    let u : State = stateOf counts (s .args .state .now) in
+    let u : State = stateIn (s .args .state .now) in
     let z = sized-words counts (s .args .state .now) (s .pre .0) in
     let file : List ℕ = withRegister (u .registers) (a .strand) (22 + kindSide (a .kind)) (a .used .0) in
     rw (← (number .trap-number .ensures), ← (call .before .trap-fault .ensures))
@@ -54,11 +39,11 @@ pub write-fault-spec : {M : Type 1} → statement M
 write-fault-spec =
     tie.close
     (tie.spec
-    write-side-requires
-    trap-number-requires
+    (λ c κs. search needs)
+    (λ c κs. search needs)
     mul-write-side
-    trap-fault-requires
+    (λ c κs. search needs)
     add-write-side
-    write-side-requires-2
-    same-length
+    (λ c κs. search needs)
+    (λ c. search needs)
     returns)

@@ -5,17 +5,11 @@ use Rattle.machine.proofs.State.{kind-side}
 use Rattle.access.proofs.write_side.Statement.{statement}
 use Rattle.access.proofs.write_side.Tie as tie
 
-access-side-requires : tie.Need-access-side-requires
-access-side-requires c κs = search needs
-
 add-write-register : tie.Need-add-write-register
 add-write-register c = omega (arith, kind-side (c .before .before .before .args .a .kind))
 
 write-register-requires : tie.Need-write-register-requires
 write-register-requires c κs = omega (arith, kind-side (c .before .before .before .args .a .kind))
-
-same-length : tie.Need-same-length
-same-length c = search needs
 
 returns : tie.Need-returns
 returns c =
@@ -25,4 +19,4 @@ returns c =
 pub write-side-spec : {M : Type 1} → statement M
 write-side-spec =
     tie.close
-    (tie.spec access-side-requires add-write-register write-register-requires same-length returns)
+    (tie.spec (λ c κs. search needs) add-write-register write-register-requires (λ c. search needs) returns)

@@ -6,35 +6,20 @@ use native.Mathlib.Omega.{arith}
 use borrow.Author.Needs.{needs}
 use Rattle.machine.specs.Access.{trapRegisters}
 use Rattle.machine.specs.Questions.{kindSide}
-use Rattle.machine.specs.State.{counts, State, stateOf}
+use Rattle.machine.specs.State.{counts, State, stateIn}
 use Rattle.machine.specs.declared.Tag.the-variants.{Kept}
 use Rattle.state.proofs.Parts.{sized-words}
 use Rattle.access.proofs.Laws.{written-more, trap-length}
 use Rattle.access.proofs.write_trap.Statement.{statement}
 use Rattle.access.proofs.write_trap.Tie as tie
 
-write-fault-requires : tie.Need-write-fault-requires
-write-fault-requires c κs = search needs
-
-enum-known-tag : tie.Need-enum-known-tag
-enum-known-tag c = search needs
-
-mul-write-side : tie.Need-mul-write-side
-mul-write-side c = search needs
-
 add-write-side : tie.Need-add-write-side
 add-write-side c =
     let tag = c .before .before .before in
     omega (arith, rw (tag .tag .given .1) at (tag .before .before .before .before .before .before .before .pre .3))
 
-write-side-requires : tie.Need-write-side-requires
-write-side-requires c κs = search needs
-
 enum-told : tie.Need-enum-told
 enum-told c = search needs
-
-same-length : tie.Need-same-length
-same-length c = search needs
 
 returns : tie.Need-returns
 unfolding trapRegisters
@@ -44,14 +29,11 @@ returns c =
     let fault = tag .before .before .before .before in
     let s = fault .before .before .before in
     let a = s .args .a in
-    let u : State = stateOf counts (s .args .state .now) in
+    let u : State = stateIn (s .args .state .now) in
     let z = sized-words counts (s .args .state .now) (s .pre .0) in
     let file : List ℕ = trapRegisters (u .registers) a (s .args .trap) Kept in
     rw (tag .tag .given .1)
     (written-more u z file (trap-length (u .registers) a (s .args .trap) Kept ∙ z .0) (fault .write-fault .ensures) (a .strand) (20 + kindSide (a .kind)) _ (call .write-side .ensures))
-
-same-length-2 : tie.Need-same-length-2
-same-length-2 c = search needs
 
 returns-2 : tie.Need-returns-2
 returns-2 c = rw (c .enum-told .given .1) (c .before .before .before .before .write-fault .ensures)
@@ -60,13 +42,13 @@ pub write-trap-spec : {M : Type 1} → statement M
 write-trap-spec =
     tie.close
     (tie.spec
-    write-fault-requires
-    enum-known-tag
-    mul-write-side
+    (λ c κs. search needs)
+    (λ c. search needs)
+    (λ c. search needs)
     add-write-side
-    write-side-requires
+    (λ c κs. search needs)
     enum-told
-    same-length
+    (λ c. search needs)
     returns
-    same-length-2
+    (λ c. search needs)
     returns-2)

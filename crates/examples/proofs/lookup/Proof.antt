@@ -10,12 +10,6 @@ use borrow.Author.Needs.{needs}
 use Rattle.examples.proofs.lookup.Statement.{statement}
 use Rattle.examples.proofs.lookup.Tie as tie
 
-search-requires : tie.Need-search-requires
-search-requires c κs = search needs
-
-enum-known-i : tie.Need-enum-known-i
-enum-known-i c = search needs
-
 enum-told : tie.Need-enum-told
 enum-told c = search needs
 
@@ -39,4 +33,4 @@ returns-2 c = c .slot-at .ensures ∙ rw (found (c .before .before))
 
 pub lookup-spec : {M : Type 1} → statement M
 lookup-spec =
-    tie.close (tie.spec search-requires enum-known-i enum-told returns slot-at-requires returns-2)
+    tie.close (tie.spec (λ c κs. search needs) (λ c. search needs) enum-told returns slot-at-requires returns-2)

@@ -1,5 +1,4 @@
 -- `mmu::act_demap_context` meets its contract.
-use mathlib.Core.Path.{_∙_}
 use Rattle.machine.specs.Step.{act}
 use Rattle.mmu.proofs.Passes.{passed-within}
 use borrow.Author.Needs.{needs}
@@ -15,18 +14,13 @@ selected-context-requires c κs = (search needs, passed-within _ _ (c .before .b
 act-demap-requires : tie.Need-act-demap-requires
 act-demap-requires c κs = (search needs, passed-within _ _ (c .before .before .before .before .before .before .pre .2) .1)
 
-same-length : tie.Need-same-length
-same-length c = search needs
-
 returns : tie.Need-returns
 unfolding act
 returns c =
     let did = c .before .before in
     let context = did .before .before in
-    let partition = context .before .before in (
-      did .act-demap .ensures .0 ∙ rw (context .selected-context .ensures, partition .read-register .ensures),
-      did .act-demap .ensures .1 ∙ rw (context .selected-context .ensures, partition .read-register .ensures),
-    )
+    let partition = context .before .before in
+    rw (context .selected-context .ensures, partition .read-register .ensures) at (did .act-demap .ensures)
 
 pub act-demap-context-spec : {M : Type 1} → statement M
 act-demap-context-spec =
@@ -35,5 +29,5 @@ act-demap-context-spec =
     read-register-requires
     selected-context-requires
     act-demap-requires
-    same-length
+    (λ c. search needs)
     returns)

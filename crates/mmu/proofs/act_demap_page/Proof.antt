@@ -1,5 +1,4 @@
 -- `mmu::act_demap_page` meets its contract.
-use mathlib.Core.Path.{_∙_}
 use Rattle.machine.specs.Step.{act}
 use Rattle.mmu.proofs.Passes.{passed-within}
 use borrow.Author.Needs.{needs}
@@ -12,14 +11,8 @@ read-register-requires c κs = (search needs, passed-within _ _ (c .before .befo
 selected-context-requires : tie.Need-selected-context-requires
 selected-context-requires c κs = (search needs, passed-within _ _ (c .before .before .before .before .pre .2) .0)
 
-key-for-requires : tie.Need-key-for-requires
-key-for-requires c κs = search needs
-
 act-demap-requires : tie.Need-act-demap-requires
 act-demap-requires c κs = (search needs, passed-within _ _ (c .before .before .before .before .before .before .before .pre .2) .1)
-
-same-length : tie.Need-same-length
-same-length c = search needs
 
 returns : tie.Need-returns
 unfolding act
@@ -27,10 +20,8 @@ returns c =
     let did = c .before .before in
     let key = did .before .before in
     let context = key .before in
-    let partition = context .before .before in (
-      did .act-demap .ensures .0 ∙ rw (key .key-for .ensures, context .selected-context .ensures, partition .read-register .ensures),
-      did .act-demap .ensures .1 ∙ rw (key .key-for .ensures, context .selected-context .ensures, partition .read-register .ensures),
-    )
+    let partition = context .before .before in
+    rw (key .key-for .ensures, context .selected-context .ensures, partition .read-register .ensures) at (did .act-demap .ensures)
 
 pub act-demap-page-spec : {M : Type 1} → statement M
 act-demap-page-spec =
@@ -38,7 +29,7 @@ act-demap-page-spec =
     (tie.spec
     read-register-requires
     selected-context-requires
-    key-for-requires
+    (λ c κs. search needs)
     act-demap-requires
-    same-length
+    (λ c. search needs)
     returns)

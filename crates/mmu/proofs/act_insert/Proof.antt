@@ -1,6 +1,6 @@
 -- `mmu::act_insert` meets its contract.
 use mathlib.Core.Path.{_∙_}
-use Rattle.machine.specs.State.{counts, stateOf}
+use Rattle.machine.specs.State.{counts, stateIn}
 use Rattle.machine.specs.Step.{act}
 use Rattle.machine.proofs.State.{sound-side}
 use Rattle.mmu.proofs.Passes.{passed-within, place-fits}
@@ -17,18 +17,15 @@ insert-side-requires c κs = (search needs, passed-within _ _ (c .before .before
 placed-to-answer-requires : tie.Need-placed-to-answer-requires
 placed-to-answer-requires c κs =
     let start = c .before .before .before .before .before .before .before in
-    let u = stateOf counts (start .args .state .now) in
+    let u = stateIn (start .args .state .now) in
     rw (c .before .before .insert-side .ensures .1) (place-fits _ _ (sound-side counts u (start .pre .1) (start .args .side) .1))
-
-same-length : tie.Need-same-length
-same-length c = search needs
 
 returns : tie.Need-returns
 unfolding act
 returns c =
     let did = c .before .before .before .insert-side in
     let e = c .before .before .before .before .before .entry-for .ensures in
-    (did .ensures .0 ∙ rw e, c .placed-to-answer .ensures ∙ rw (did .ensures .1, e))
+    record { words = did .ensures .0 ∙ rw e; answer = c .placed-to-answer .ensures ∙ rw (did .ensures .1, e) }
 
 pub act-insert-spec : {M : Type 1} → statement M
 act-insert-spec =
@@ -37,5 +34,5 @@ act-insert-spec =
     entry-for-requires
     insert-side-requires
     placed-to-answer-requires
-    same-length
+    (λ c. search needs)
     returns)

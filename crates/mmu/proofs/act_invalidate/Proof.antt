@@ -9,12 +9,9 @@ use Rattle.mmu.proofs.act_invalidate.Tie as tie
 remove-side-requires : tie.Need-remove-side-requires
 remove-side-requires c κs = (search needs, passed-within _ _ (c .before .before .pre .2))
 
-same-length : tie.Need-same-length
-same-length c = search needs
-
 returns : tie.Need-returns
 unfolding act
-returns c = (c .before .before .remove-side .ensures .0, refl)
+returns c = record { words = c .before .before .remove-side .ensures .0; answer = refl }
 
 pub act-invalidate-spec : {M : Type 1} → statement M
-act-invalidate-spec = tie.close (tie.spec remove-side-requires same-length returns)
+act-invalidate-spec = tie.close (tie.spec remove-side-requires (λ c. search needs) returns)

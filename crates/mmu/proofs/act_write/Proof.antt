@@ -9,12 +9,9 @@ use Rattle.mmu.proofs.act_write.Tie as tie
 write-register-requires : tie.Need-write-register-requires
 write-register-requires c κs = let w = passed-within _ _ (c .before .before .pre .2) in (search needs, w .0, w .1)
 
-same-length : tie.Need-same-length
-same-length c = search needs
-
 returns : tie.Need-returns
 unfolding act
-returns c = (c .before .before .write-register .ensures, refl)
+returns c = record { words = c .before .before .write-register .ensures; answer = refl }
 
 pub act-write-spec : {M : Type 1} → statement M
-act-write-spec = tie.close (tie.spec write-register-requires same-length returns)
+act-write-spec = tie.close (tie.spec write-register-requires (λ c. search needs) returns)

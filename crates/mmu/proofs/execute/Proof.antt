@@ -7,21 +7,12 @@ use borrow.Author.Needs.{needs}
 use Rattle.mmu.proofs.execute.Statement.{statement}
 use Rattle.mmu.proofs.execute.Tie as tie
 
-question-requires : tie.Need-question-requires
-question-requires c κs = search needs
-
-enum-known-refusal : tie.Need-enum-known-refusal
-enum-known-refusal c = search needs
-
-same-length : tie.Need-same-length
-same-length c = search needs
-
 returns : tie.Need-returns
 unfolding step
 returns c =
     let q = c .before .before .before in
     let e = sym (q .question .ensures) ∙ c .before .refusal .given .1 in
-    (rw e (sym (encode-state counts _ (q .before .before .before .pre .0))), rw e)
+    record { words = rw e (sym (encode-state counts _ (q .before .before .before .pre .0))); answer = rw e }
 
 enum-told : tie.Need-enum-told
 enum-told c = search needs
@@ -32,27 +23,23 @@ act-command-requires c κs =
     let q = told .before .before in
     (search needs, q .before .before .before .pre .1, sym (q .question .ensures) ∙ told .enum-told .given .1)
 
-same-length-2 : tie.Need-same-length-2
-same-length-2 c = search needs
-
 returns-2 : tie.Need-returns-2
 unfolding step
 returns-2 c =
     let a = c .before .before in
     let told = a .before .before .before in
     let q = told .before .before in
-    let e = sym (q .question .ensures) ∙ told .enum-told .given .1 in
-    (a .act-command .ensures .0 ∙ rw e, a .act-command .ensures .1 ∙ rw e)
+    rw (sym (q .question .ensures) ∙ told .enum-told .given .1) (a .act-command .ensures)
 
 pub execute-spec : {M : Type 1} → statement M
 execute-spec =
     tie.close
     (tie.spec
-    question-requires
-    enum-known-refusal
-    same-length
+    (λ c κs. search needs)
+    (λ c. search needs)
+    (λ c. search needs)
     returns
     enum-told
     act-command-requires
-    same-length-2
+    (λ c. search needs)
     returns-2)

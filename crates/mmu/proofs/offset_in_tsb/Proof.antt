@@ -10,14 +10,8 @@ use borrow.Author.Needs.{needs}
 use Rattle.mmu.proofs.offset_in_tsb.Statement.{statement}
 use Rattle.mmu.proofs.offset_in_tsb.Tie as tie
 
-page-shift-requires : tie.Need-page-shift-requires
-page-shift-requires c κs = search needs
-
 shr-result : tie.Need-shr-result
 shr-result c = rw (c .page-shift .ensures) (omega (arith, shift-small (c .before .args .code)))
-
-shl-result : tie.Need-shl-result
-shl-result c = search needs
 
 rem-result : tie.Need-rem-result
 rem-result c = rw (tsb-entries (c .before .args .n) (c .before .pre)) (pow-pos _)
@@ -34,4 +28,4 @@ returns c = rw (c .page-shift .ensures, tsb-entries (c .before .args .n) (c .bef
 
 pub offset-in-tsb-spec : {M : Type 1} → statement M
 offset-in-tsb-spec =
-    tie.close (tie.spec page-shift-requires shr-result shl-result rem-result mul-result returns)
+    tie.close (tie.spec (λ c κs. search needs) shr-result (λ c. search needs) rem-result mul-result returns)

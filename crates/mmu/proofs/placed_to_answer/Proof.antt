@@ -6,20 +6,8 @@ use borrow.Author.Needs.{needs}
 use Rattle.mmu.proofs.placed_to_answer.Statement.{statement}
 use Rattle.mmu.proofs.placed_to_answer.Tie as tie
 
-enum-told : tie.Need-enum-told
-enum-told c = search needs
-
-enum-known-placed : tie.Need-enum-known-placed
-enum-known-placed c = search needs
-
 displaced-entry-requires : tie.Need-displaced-entry-requires
 displaced-entry-requires c κs = rw (c .before .placed .given .1) at (c .before .before .before .pre)
-
-enum-told-2 : tie.Need-enum-told-2
-enum-told-2 c = search needs
-
-returns : tie.Need-returns
-returns c = search needs
 
 returns-2 : tie.Need-returns-2
 returns-2 c = ap Displaced (c .displaced-entry .ensures) ∙ ap placedAnswer (sym (c .before .before .placed .given .1))
@@ -31,10 +19,10 @@ pub placed-to-answer-spec : {M : Type 1} → statement M
 placed-to-answer-spec =
     tie.close
     (tie.spec
-    enum-told
-    enum-known-placed
+    (λ c. search needs)
+    (λ c. search needs)
     displaced-entry-requires
-    enum-told-2
-    returns
+    (λ c. search needs)
+    (λ c. search needs)
     returns-2
     returns-3)

@@ -10,18 +10,6 @@ use borrow.Author.Needs.{needs}
 use Rattle.mmu.proofs.tsb_pointer.Statement.{statement}
 use Rattle.mmu.proofs.tsb_pointer.Tie as tie
 
-add-shift : tie.Need-add-shift
-add-shift c = search needs
-
-shr-result : tie.Need-shr-result
-shr-result c = search needs
-
-shl-result : tie.Need-shl-result
-shl-result c = search needs
-
-offset-in-tsb-requires : tie.Need-offset-in-tsb-requires
-offset-in-tsb-requires c κs = search needs
-
 -- what is shifted back does not leave the word
 kept : (c : tie.Start) → (c .args .base / 2 ^ (13 + c .args .base % 16) * 2 ^ (13 + c .args .base % 16)) % 2 ^ 64 ≡ c .args .base / 2 ^ (13 + c .args .base % 16) * 2 ^ (13 + c .args .base % 16)
 kept c = mod-eq-of-lt (omega (arith, split (c .args .base) (13 + c .args .base % 16)))
@@ -41,4 +29,4 @@ returns c = rw (kept (c .before), c .offset-in-tsb .ensures)
 
 pub tsb-pointer-spec : {M : Type 1} → statement M
 tsb-pointer-spec =
-    tie.close (tie.spec add-shift shr-result shl-result offset-in-tsb-requires add-result returns)
+    tie.close (tie.spec (λ c. search needs) (λ c. search needs) (λ c. search needs) (λ c κs. search needs) add-result returns)

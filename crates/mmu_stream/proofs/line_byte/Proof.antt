@@ -12,25 +12,10 @@ returns : tie.Need-returns
 unfolding lineAt
 returns c = rw (eq-eqb _ _ (c .if1 .taken))
 
-add-digit : tie.Need-add-digit
-add-digit c = search needs
-
-shared-slice-read-digit : tie.Need-shared-slice-read-digit
-shared-slice-read-digit c = search needs
-
 digit-requires : tie.Need-digit-requires
 digit-requires c κs =
     let a = c .before .before .before .before .args in
     omega (arith, c .shared-slice-known2 .given (a .at + a .k / 2))
-
-add-digit-2 : tie.Need-add-digit-2
-add-digit-2 c = search needs
-
-shared-slice-read-digit-2 : tie.Need-shared-slice-read-digit-2
-shared-slice-read-digit-2 c = search needs
-
-digit-requires-2 : tie.Need-digit-requires-2
-digit-requires-2 c κs = search needs
 
 returns-2 : tie.Need-returns-2
 unfolding lineAt
@@ -45,11 +30,11 @@ line-byte-spec =
     tie.close
     (tie.spec
     returns
-    add-digit
-    shared-slice-read-digit
+    (λ c. search needs)
+    (λ c. search needs)
     digit-requires
-    add-digit-2
-    shared-slice-read-digit-2
-    digit-requires-2
+    (λ c. search needs)
+    (λ c. search needs)
+    (λ c κs. search needs)
     returns-2
     returns-3)

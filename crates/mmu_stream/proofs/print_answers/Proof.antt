@@ -14,32 +14,8 @@ Inv-loop output answered i₀ i = i ≤ answered
 abbrev μ-loop : tie.MeasureT-loop
 μ-loop output answered i₀ i = answered - i
 
-loop-holds : tie.Need-loop-holds Inv-loop μ-loop
-loop-holds c = search needs
-
-mul-spell : tie.Need-mul-spell Inv-loop μ-loop
-mul-spell c = omega arith
-
-spell-requires : tie.Need-spell-requires Inv-loop μ-loop
-spell-requires c κs = omega arith
-
 slice-aggregate-write-all : tie.Need-slice-aggregate-write-all Inv-loop μ-loop
 slice-aggregate-write-all c = sym (ap length (c .before .spell .ensures) ∙ list-of-length _ 0 49)
-
-write-all-requires : tie.Need-write-all-requires Inv-loop μ-loop
-write-all-requires c κs = search needs
-
-add-i : tie.Need-add-i Inv-loop μ-loop
-add-i c = omega arith
-
-loop-less : tie.Need-loop-less Inv-loop μ-loop
-loop-less c = omega arith
-
-loop-again : tie.Need-loop-again Inv-loop μ-loop
-loop-again c = omega arith
-
-returns : tie.Need-returns Inv-loop μ-loop
-returns c = search needs
 
 pub print-answers-spec : {M : Type 1} → statement M
 print-answers-spec =
@@ -47,12 +23,12 @@ print-answers-spec =
     (tie.spec
     Inv-loop
     μ-loop
-    loop-holds
-    mul-spell
-    spell-requires
+    (λ c. search needs)
+    (λ c. omega arith)
+    (λ c κs. omega arith)
     slice-aggregate-write-all
-    write-all-requires
-    add-i
-    loop-less
-    loop-again
-    returns)
+    (λ c κs. search needs)
+    (λ c. omega arith)
+    (λ c. omega arith)
+    (λ c. omega arith)
+    (λ c. search needs))

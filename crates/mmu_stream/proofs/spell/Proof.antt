@@ -19,18 +19,6 @@ abbrev μ-loop : tie.MeasureT-loop
 loop-holds : tie.Need-loop-holds Inv-loop μ-loop
 loop-holds c = (search needs, refl, λ i h. absurd (omega arith))
 
-line-byte-requires : tie.Need-line-byte-requires Inv-loop μ-loop
-line-byte-requires c κs = search needs
-
-array-write-line : tie.Need-array-write-line Inv-loop μ-loop
-array-write-line c = omega arith
-
-add-k : tie.Need-add-k Inv-loop μ-loop
-add-k c = omega arith
-
-loop-less : tie.Need-loop-less Inv-loop μ-loop
-loop-less c = omega arith
-
 loop-again : tie.Need-loop-again Inv-loop μ-loop
 loop-again c =
     let l = c .before .before .loop in
@@ -53,9 +41,9 @@ spell-spec =
     Inv-loop
     μ-loop
     loop-holds
-    line-byte-requires
-    array-write-line
-    add-k
-    loop-less
+    (λ c κs. search needs)
+    (λ c. omega arith)
+    (λ c. omega arith)
+    (λ c. omega arith)
     loop-again
     returns)

@@ -8,14 +8,8 @@ use Rattle.operands.proofs.selected_context.Tie as tie
 returns : tie.Need-returns
 returns c = rw (eq-eqb _ _ (c .if1 .taken))
 
-read-register-requires : tie.Need-read-register-requires
-read-register-requires c κs = search needs
-
 returns-2 : tie.Need-returns-2
 returns-2 c = c .read-register .ensures ∙ rw (ne-eqb _ _ (c .before .before .if1 .left), eq-eqb _ _ (c .before .if2 .taken))
-
-read-register-requires-2 : tie.Need-read-register-requires-2
-read-register-requires-2 c κs = search needs
 
 returns-3 : tie.Need-returns-3
 returns-3 c = c .read-register2 .ensures ∙ rw (ne-eqb _ _ (c .before .before .if1 .left), ne-eqb _ _ (c .before .if2 .left))
@@ -23,4 +17,4 @@ returns-3 c = c .read-register2 .ensures ∙ rw (ne-eqb _ _ (c .before .before .
 pub selected-context-spec : {M : Type 1} → statement M
 selected-context-spec =
     tie.close
-    (tie.spec returns read-register-requires returns-2 read-register-requires-2 returns-3)
+    (tie.spec returns (λ c κs. search needs) returns-2 (λ c κs. search needs) returns-3)

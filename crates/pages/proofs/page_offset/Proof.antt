@@ -5,11 +5,8 @@ use Rattle.machine.specs.Pages.{pageShift}
 use Rattle.pages.proofs.page_offset.Statement.{statement}
 use Rattle.pages.proofs.page_offset.Tie as tie
 
-page-mask-requires : tie.Need-page-mask-requires
-page-mask-requires c κs = search needs
-
 returns : tie.Need-returns
 returns c = rw (c .page-mask .ensures) (and-mask (c .before .args .address) (pageShift (c .before .args .code)))
 
 pub page-offset-spec : {M : Type 1} → statement M
-page-offset-spec = tie.close (tie.spec page-mask-requires returns)
+page-offset-spec = tie.close (tie.spec (λ c κs. search needs) returns)

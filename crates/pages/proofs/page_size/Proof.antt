@@ -9,9 +9,6 @@ use Rattle.machine.proofs.Pages.{shift-small}
 use Rattle.pages.proofs.page_size.Statement.{statement}
 use Rattle.pages.proofs.page_size.Tie as tie
 
-page-shift-requires : tie.Need-page-shift-requires
-page-shift-requires c κs = search needs
-
 shl-result : tie.Need-shl-result
 shl-result c = rw (c .page-shift .ensures) (omega (arith, shift-small (c .before .args .code)))
 
@@ -21,4 +18,4 @@ returns c =
     rw (c .page-shift .ensures) (shl-exact 1 k 64 (lit< tt) (omega (arith, shift-small (c .before .args .code))) ∙ omega arith)
 
 pub page-size-spec : {M : Type 1} → statement M
-page-size-spec = tie.close (tie.spec page-shift-requires shl-result returns)
+page-size-spec = tie.close (tie.spec (λ c κs. search needs) shl-result returns)

@@ -20,12 +20,6 @@ returns-2 c =
       le-ltb (c .before .before .before .args .kind) 5 (c .if2 .taken),
     )
 
-access-side-requires : tie.Need-access-side-requires
-access-side-requires c κs = search needs
-
-selector-fits-requires : tie.Need-selector-fits-requires
-selector-fits-requires c κs = search needs
-
 returns-3 : tie.Need-returns-3
 unfolding verdict asked ask
 returns-3 c =
@@ -34,9 +28,6 @@ returns-3 c =
       lt-ltb (c .before .before .before .before .before .before .args .kind) 5 (c .before .before .before .if2 .left),
       ap (λ (k : ℕ). selectorFits k (c .before .before .before .before .before .before .args .selector)) (sym (c .before .before .access-side .ensures)) ∙ sym (c .before .selector-fits .ensures) ∙ not-true _ (c .if3 .taken),
     )
-
-is-nucleus-fetch-requires : tie.Need-is-nucleus-fetch-requires
-is-nucleus-fetch-requires c κs = search needs
 
 returns-4 : tie.Need-returns-4
 unfolding verdict asked ask
@@ -47,9 +38,6 @@ returns-4 c =
       ap (λ (k : ℕ). selectorFits k (c .before .before .before .before .before .before .before .before .args .selector)) (sym (c .before .before .before .before .access-side .ensures)) ∙ sym (c .before .before .before .selector-fits .ensures) ∙ not-false _ (c .before .before .if3 .left),
       sym (c .before .is-nucleus-fetch .ensures) ∙ c .if4 .taken,
     )
-
-size-fits-requires : tie.Need-size-fits-requires
-size-fits-requires c κs = search needs
 
 returns-5 : tie.Need-returns-5
 unfolding verdict asked ask
@@ -79,11 +67,11 @@ ask-access-spec =
     (tie.spec
     returns
     returns-2
-    access-side-requires
-    selector-fits-requires
+    (λ c κs. search needs)
+    (λ c κs. search needs)
     returns-3
-    is-nucleus-fetch-requires
+    (λ c κs. search needs)
     returns-4
-    size-fits-requires
+    (λ c κs. search needs)
     returns-5
     returns-6)

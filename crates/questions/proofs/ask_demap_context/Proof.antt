@@ -17,9 +17,6 @@ returns-2 c = rw (
   le-ltb (c .before .before .before .args .side) 2 (c .if2 .taken),
 )
 
-selector-fits-requires : tie.Need-selector-fits-requires
-selector-fits-requires c κs = search needs
-
 returns-3 : tie.Need-returns-3
 unfolding verdict asked ask
 returns-3 c = rw (
@@ -38,4 +35,4 @@ returns-4 c = rw (
 
 pub ask-demap-context-spec : {M : Type 1} → statement M
 ask-demap-context-spec =
-    tie.close (tie.spec returns returns-2 selector-fits-requires returns-3 returns-4)
+    tie.close (tie.spec returns returns-2 (λ c κs. search needs) returns-3 returns-4)

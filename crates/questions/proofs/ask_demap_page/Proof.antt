@@ -17,9 +17,6 @@ returns-2 c = rw (
   le-ltb (c .before .before .before .args .side) 2 (c .if2 .taken),
 )
 
-selector-fits-requires : tie.Need-selector-fits-requires
-selector-fits-requires c κs = search needs
-
 returns-3 : tie.Need-returns-3
 unfolding verdict asked ask
 returns-3 c = rw (
@@ -36,9 +33,6 @@ returns-4 c = rw (
   sym (c .before .before .selector-fits .ensures) ∙ not-false _ (c .before .if3 .left),
   le-ltb (c .before .before .before .before .before .before .args .flags) 2 (c .if4 .taken),
 )
-
-in-range-requires : tie.Need-in-range-requires
-in-range-requires c κs = search needs
 
 returns-5 : tie.Need-returns-5
 unfolding verdict asked ask
@@ -66,9 +60,9 @@ ask-demap-page-spec =
     (tie.spec
     returns
     returns-2
-    selector-fits-requires
+    (λ c κs. search needs)
     returns-3
     returns-4
-    in-range-requires
+    (λ c κs. search needs)
     returns-5
     returns-6)

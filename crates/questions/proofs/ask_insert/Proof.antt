@@ -5,7 +5,7 @@ use Rattle.machine.specs.Questions.{asked, ask, verdict}
 use Prim.Native.Nat.{ℕ, _*_, _/_}
 use Rattle.machine.specs.Pages.{inRange}
 use Rattle.machine.specs.Insertion.{candidate, hasSlot}
-use Rattle.machine.specs.State.{counts, stateOf, sideOf}
+use Rattle.machine.specs.State.{stateIn, sideOf}
 use Rattle.machine.specs.declared.Slot.{Slot}
 use borrow.Author.Needs.{needs}
 use Rattle.questions.proofs.ask_insert.Statement.{statement}
@@ -32,15 +32,6 @@ returns-3 c =
       le-ltb (c .before .before .before .before .args .flags) 4 (c .if3 .taken),
     )
 
-tag-of-requires : tie.Need-tag-of-requires
-tag-of-requires c κs = search needs
-
-mul-in-range : tie.Need-mul-in-range
-mul-in-range c = search needs
-
-in-range-requires : tie.Need-in-range-requires
-in-range-requires c κs = search needs
-
 returns-4 : tie.Need-returns-4
 unfolding verdict asked ask
 returns-4 c =
@@ -50,9 +41,6 @@ returns-4 c =
       lt-ltb (c .before .before .before .before .before .before .before .args .flags) 4 (c .before .before .before .if3 .left),
       ap (λ (t : ℕ). inRange (t / 8192 * 8192)) (sym (c .before .before .tag-of .ensures)) ∙ sym (c .before .in-range .ensures) ∙ not-true _ (c .if4 .taken),
     )
-
-word-insertable-requires : tie.Need-word-insertable-requires
-word-insertable-requires c κs = search needs
 
 returns-5 : tie.Need-returns-5
 unfolding verdict asked ask
@@ -65,12 +53,6 @@ returns-5 c =
       sym (c .before .word-insertable .ensures .0) ∙ not-true _ (c .if5 .taken),
     )
 
-entry-for-requires : tie.Need-entry-for-requires
-entry-for-requires c κs = search needs
-
-slot-to-be-had-requires : tie.Need-slot-to-be-had-requires
-slot-to-be-had-requires c κs = search needs
-
 returns-6 : tie.Need-returns-6
 unfolding verdict asked ask
 returns-6 c =
@@ -80,7 +62,7 @@ returns-6 c =
       lt-ltb (c .before .before .before .before .before .before .before .before .before .before .before .before .args .flags) 4 (c .before .before .before .before .before .before .before .before .if3 .left),
       ap (λ (t : ℕ). inRange (t / 8192 * 8192)) (sym (c .before .before .before .before .before .before .before .tag-of .ensures)) ∙ sym (c .before .before .before .before .before .before .in-range .ensures) ∙ not-false _ (c .before .before .before .before .before .if4 .left),
       sym (c .before .before .before .before .word-insertable .ensures .0) ∙ not-false _ (c .before .before .before .if5 .left),
-      ap (λ (x : Slot). hasSlot candidate x (sideOf (stateOf counts (c .before .before .before .before .before .before .before .before .before .before .before .before .args .state .now)) (c .before .before .before .before .before .before .before .before .before .before .before .before .args .side))) (sym (c .before .before .entry-for .ensures)) ∙ sym (c .before .slot-to-be-had .ensures) ∙ not-true _ (c .if6 .taken),
+      ap (λ (x : Slot). hasSlot candidate x (sideOf (stateIn (c .before .before .before .before .before .before .before .before .before .before .before .before .args .state .now)) (c .before .before .before .before .before .before .before .before .before .before .before .before .args .side))) (sym (c .before .before .entry-for .ensures)) ∙ sym (c .before .slot-to-be-had .ensures) ∙ not-true _ (c .if6 .taken),
     )
 
 returns-7 : tie.Need-returns-7
@@ -92,7 +74,7 @@ returns-7 c =
       lt-ltb (c .before .before .before .before .before .before .before .before .before .before .before .before .args .flags) 4 (c .before .before .before .before .before .before .before .before .if3 .left),
       ap (λ (t : ℕ). inRange (t / 8192 * 8192)) (sym (c .before .before .before .before .before .before .before .tag-of .ensures)) ∙ sym (c .before .before .before .before .before .before .in-range .ensures) ∙ not-false _ (c .before .before .before .before .before .if4 .left),
       sym (c .before .before .before .before .word-insertable .ensures .0) ∙ not-false _ (c .before .before .before .if5 .left),
-      ap (λ (x : Slot). hasSlot candidate x (sideOf (stateOf counts (c .before .before .before .before .before .before .before .before .before .before .before .before .args .state .now)) (c .before .before .before .before .before .before .before .before .before .before .before .before .args .side))) (sym (c .before .before .entry-for .ensures)) ∙ sym (c .before .slot-to-be-had .ensures) ∙ not-false _ (c .if6 .left),
+      ap (λ (x : Slot). hasSlot candidate x (sideOf (stateIn (c .before .before .before .before .before .before .before .before .before .before .before .before .args .state .now)) (c .before .before .before .before .before .before .before .before .before .before .before .before .args .side))) (sym (c .before .before .entry-for .ensures)) ∙ sym (c .before .slot-to-be-had .ensures) ∙ not-false _ (c .if6 .left),
     )
 
 pub ask-insert-spec : {M : Type 1} → statement M
@@ -102,13 +84,13 @@ ask-insert-spec =
     returns
     returns-2
     returns-3
-    tag-of-requires
-    mul-in-range
-    in-range-requires
+    (λ c κs. search needs)
+    (λ c. search needs)
+    (λ c κs. search needs)
     returns-4
-    word-insertable-requires
+    (λ c κs. search needs)
     returns-5
-    entry-for-requires
-    slot-to-be-had-requires
+    (λ c κs. search needs)
+    (λ c κs. search needs)
     returns-6
     returns-7)

@@ -10,9 +10,6 @@ returns : tie.Need-returns
 unfolding verdict asked ask
 returns c = rw (le-ltb (c .before .before .args .strand) 4 (c .if1 .taken))
 
-is-known-requires : tie.Need-is-known-requires
-is-known-requires c κs = search needs
-
 returns-2 : tie.Need-returns-2
 unfolding verdict asked ask
 returns-2 c = rw (
@@ -28,4 +25,4 @@ returns-3 c = rw (
 )
 
 pub ask-read-spec : {M : Type 1} → statement M
-ask-read-spec = tie.close (tie.spec returns is-known-requires returns-2 returns-3)
+ask-read-spec = tie.close (tie.spec returns (λ c κs. search needs) returns-2 returns-3)

@@ -10,18 +10,12 @@ returns : tie.Need-returns
 unfolding verdict asked ask
 returns c = rw (le-ltb (c .before .before .args .strand) 4 (c .if1 .taken))
 
-is-writable-requires : tie.Need-is-writable-requires
-is-writable-requires c κs = search needs
-
 returns-2 : tie.Need-returns-2
 unfolding verdict asked ask
 returns-2 c = rw (
   lt-ltb (c .before .before .before .before .args .strand) 4 (c .before .before .if1 .left),
   sym (c .before .is-writable .ensures) ∙ not-true _ (c .if2 .taken),
 )
-
-is-allowed-requires : tie.Need-is-allowed-requires
-is-allowed-requires c κs = search needs
 
 returns-3 : tie.Need-returns-3
 unfolding verdict asked ask
@@ -42,4 +36,4 @@ returns-4 c = rw (
 pub ask-write-spec : {M : Type 1} → statement M
 ask-write-spec =
     tie.close
-    (tie.spec returns is-writable-requires returns-2 is-allowed-requires returns-3 returns-4)
+    (tie.spec returns (λ c κs. search needs) returns-2 (λ c κs. search needs) returns-3 returns-4)

@@ -22,15 +22,6 @@ abbrev μ-loop : tie.MeasureT-loop
 loop-holds : tie.Need-loop-holds Inv-loop μ-loop
 loop-holds c = (omega arith, λ k h g. absurd (omega arith))
 
-mul-is-allowed : tie.Need-mul-is-allowed Inv-loop μ-loop
-mul-is-allowed c = omega arith
-
-shared-slice-read-is-allowed : tie.Need-shared-slice-read-is-allowed Inv-loop μ-loop
-shared-slice-read-is-allowed c = omega arith
-
-is-allowed-requires : tie.Need-is-allowed-requires Inv-loop μ-loop
-is-allowed-requires c κs = search needs
-
 -- what the code asks of cell i
 asked : (c : tie.After-is-allowed Inv-loop μ-loop) →
     let at = c .before .before .before in
@@ -47,12 +38,6 @@ returns c =
     by-test (allBelow ok 128) (λ t. clash (below-at ok 128 (at .loop .i) t (omega arith)) (asked (c .before) ∙ not-true _ (c .if1 .taken))) (λ t. t) in
     record { each = λ t. clash t refl; some = λ t. none }
 
-add-i : tie.Need-add-i Inv-loop μ-loop
-add-i c = omega arith
-
-loop-less : tie.Need-loop-less Inv-loop μ-loop
-loop-less c = omega arith
-
 loop-again : tie.Need-loop-again Inv-loop μ-loop
 loop-again c = (omega arith, below-more _ _ (c .before .before .before .before .loop .inv .1) (λ g. asked (c .before) ∙ not-false _ (c .if1 .left)))
 
@@ -66,11 +51,11 @@ cells-fit-spec =
     Inv-loop
     μ-loop
     loop-holds
-    mul-is-allowed
-    shared-slice-read-is-allowed
-    is-allowed-requires
+    (λ c. omega arith)
+    (λ c. omega arith)
+    (λ c κs. search needs)
     returns
-    add-i
-    loop-less
+    (λ c. omega arith)
+    (λ c. omega arith)
     loop-again
     returns-2)

@@ -26,18 +26,9 @@ returns c = rw (ne-eqb _ _ (c .if1 .taken))
 loop-holds : tie.Need-loop-holds Inv-loop μ-loop
 loop-holds c = (search needs, search needs, record { each = λ e k h. absurd (omega arith); some = λ e. clash refl e })
 
-strand-fits-requires : tie.Need-strand-fits-requires Inv-loop μ-loop
-strand-fits-requires c κs = search needs
-
 returns-2 : tie.Need-returns-2 Inv-loop μ-loop
 unfolding registersSound
 returns-2 c = rw (eq-eqb _ _ (c .before .before .before .before .if1 .left), c .before .strand-fits .ensures .some (not-true _ (c .if2 .taken)))
-
-add-start : tie.Need-add-start Inv-loop μ-loop
-add-start c = omega arith
-
-loop-less : tie.Need-loop-less Inv-loop μ-loop
-loop-less c = omega arith
 
 loop-again : tie.Need-loop-again Inv-loop μ-loop
 loop-again c =
@@ -56,9 +47,9 @@ file-sound-spec =
     μ-loop
     returns
     loop-holds
-    strand-fits-requires
+    (λ c κs. search needs)
     returns-2
-    add-start
-    loop-less
+    (λ c. omega arith)
+    (λ c. omega arith)
     loop-again
     returns-3)

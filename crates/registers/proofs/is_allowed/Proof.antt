@@ -7,12 +7,6 @@ use Rattle.registers.proofs.Ranges.{from-0, from-1, from-3, from-4, fro
 use Rattle.registers.proofs.is_allowed.Tie as tie
 use Rattle.registers.proofs.is_allowed.Statement.{statement}
 
-is-base-requires : tie.Need-is-base-requires
-is-base-requires c κs = search needs
-
-is-configuration-requires : tie.Need-is-configuration-requires
-is-configuration-requires c κs = search needs
-
 returns : tie.Need-returns
 returns c = let a = c .before .args in sym (from-0 (a .number) (a .value) (omega arith))
 
@@ -53,8 +47,8 @@ pub is-allowed-spec : {M : Type 1} → statement M
 is-allowed-spec =
     tie.close
     (tie.spec
-    is-base-requires
-    is-configuration-requires
+    (λ c κs. search needs)
+    (λ c κs. search needs)
     returns
     returns-2
     returns-3

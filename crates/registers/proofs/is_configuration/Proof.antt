@@ -7,15 +7,9 @@ use Rattle.machine.specs.Registers.{configurationAllowed}
 use Rattle.registers.proofs.is_configuration.Tie as tie
 use Rattle.registers.proofs.is_configuration.Statement.{statement}
 
-code-listed-requires : tie.Need-code-listed-requires
-code-listed-requires c κs = search needs
-
 returns : tie.Need-returns
 unfolding configurationAllowed
 returns c = rw (sym (c .before .code-listed .ensures) ∙ not-true _ (c .if1 .taken))
-
-code-listed-requires-2 : tie.Need-code-listed-requires-2
-code-listed-requires-2 c κs = search needs
 
 returns-2 : tie.Need-returns-2
 unfolding configurationAllowed
@@ -31,4 +25,4 @@ returns-4 c = rw (sym (c .before .before .before .before .code-listed .ensures) 
 
 pub is-configuration-spec : {M : Type 1} → statement M
 is-configuration-spec =
-    tie.close (tie.spec code-listed-requires returns code-listed-requires-2 returns-2 returns-3 returns-4)
+    tie.close (tie.spec (λ c κs. search needs) returns (λ c κs. search needs) returns-2 returns-3 returns-4)

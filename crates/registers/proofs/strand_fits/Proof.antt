@@ -12,21 +12,12 @@ use Rattle.registers.proofs.Ranges.{from-0, from-1, from-3, from-4, fro
 use Rattle.registers.proofs.strand_fits.Statement.{statement}
 use Rattle.registers.proofs.strand_fits.Tie as tie
 
-add-cells-fit : tie.Need-add-cells-fit
-add-cells-fit c = omega arith
-
 cells-fit-requires : tie.Need-cells-fit-requires
 unfolding allowed
 cells-fit-requires c κs = (search needs, omega arith, λ k v h g. from-0 (k % 32) v (omega arith))
 
 returns : tie.Need-returns
 returns c = failed (c .before .cells-fit .ensures) (c .if1 .taken)
-
-add-cells-fit-2 : tie.Need-add-cells-fit-2
-add-cells-fit-2 c = omega arith
-
-add-cells-fit-3 : tie.Need-add-cells-fit-3
-add-cells-fit-3 c = omega arith
 
 cells-fit-requires-2 : tie.Need-cells-fit-requires-2
 unfolding allowed
@@ -35,24 +26,12 @@ cells-fit-requires-2 c κs = (search needs, omega arith, λ k v h g. from-1 (k %
 returns-2 : tie.Need-returns-2
 returns-2 c = failed (c .before .cells-fit2 .ensures) (c .if2 .taken)
 
-add-cells-fit-4 : tie.Need-add-cells-fit-4
-add-cells-fit-4 c = omega arith
-
-add-cells-fit-5 : tie.Need-add-cells-fit-5
-add-cells-fit-5 c = omega arith
-
 cells-fit-requires-3 : tie.Need-cells-fit-requires-3
 unfolding allowed
 cells-fit-requires-3 c κs = (search needs, omega arith, λ k v h g. from-3 (k % 32) v (omega arith) (omega arith))
 
 returns-3 : tie.Need-returns-3
 returns-3 c = failed (c .before .cells-fit3 .ensures) (c .if3 .taken)
-
-add-cells-fit-6 : tie.Need-add-cells-fit-6
-add-cells-fit-6 c = omega arith
-
-add-cells-fit-7 : tie.Need-add-cells-fit-7
-add-cells-fit-7 c = omega arith
 
 cells-fit-requires-4 : tie.Need-cells-fit-requires-4
 unfolding allowed
@@ -61,24 +40,12 @@ cells-fit-requires-4 c κs = (search needs, omega arith, λ k v h g. from-4 (k %
 returns-4 : tie.Need-returns-4
 returns-4 c = failed (c .before .cells-fit4 .ensures) (c .if4 .taken)
 
-add-cells-fit-8 : tie.Need-add-cells-fit-8
-add-cells-fit-8 c = omega arith
-
-add-cells-fit-9 : tie.Need-add-cells-fit-9
-add-cells-fit-9 c = omega arith
-
 cells-fit-requires-5 : tie.Need-cells-fit-requires-5
 unfolding allowed
 cells-fit-requires-5 c κs = (search needs, omega arith, λ k v h g. from-5 (k % 32) v (omega arith) (omega arith))
 
 returns-5 : tie.Need-returns-5
 returns-5 c = failed (c .before .cells-fit5 .ensures) (c .if5 .taken)
-
-add-cells-fit-10 : tie.Need-add-cells-fit-10
-add-cells-fit-10 c = omega arith
-
-add-cells-fit-11 : tie.Need-add-cells-fit-11
-add-cells-fit-11 c = omega arith
 
 cells-fit-requires-6 : tie.Need-cells-fit-requires-6
 unfolding allowed
@@ -87,12 +54,6 @@ cells-fit-requires-6 c κs = (search needs, omega arith, λ k v h g. from-6 (k %
 returns-6 : tie.Need-returns-6
 returns-6 c = failed (c .before .cells-fit6 .ensures) (c .if6 .taken)
 
-add-cells-fit-12 : tie.Need-add-cells-fit-12
-add-cells-fit-12 c = omega arith
-
-add-cells-fit-13 : tie.Need-add-cells-fit-13
-add-cells-fit-13 c = omega arith
-
 cells-fit-requires-7 : tie.Need-cells-fit-requires-7
 unfolding allowed
 cells-fit-requires-7 c κs = (search needs, omega arith, λ k v h g. from-8 (k % 32) v (omega arith) (omega arith))
@@ -100,24 +61,12 @@ cells-fit-requires-7 c κs = (search needs, omega arith, λ k v h g. from-8 (k %
 returns-7 : tie.Need-returns-7
 returns-7 c = failed (c .before .cells-fit7 .ensures) (c .if7 .taken)
 
-add-cells-fit-14 : tie.Need-add-cells-fit-14
-add-cells-fit-14 c = omega arith
-
-add-cells-fit-15 : tie.Need-add-cells-fit-15
-add-cells-fit-15 c = omega arith
-
 cells-fit-requires-8 : tie.Need-cells-fit-requires-8
 unfolding allowed
 cells-fit-requires-8 c κs = (search needs, omega arith, λ k v h g. from-16 (k % 32) v (omega arith) (omega arith))
 
 returns-8 : tie.Need-returns-8
 returns-8 c = failed (c .before .cells-fit8 .ensures) (c .if8 .taken)
-
-add-cells-fit-16 : tie.Need-add-cells-fit-16
-add-cells-fit-16 c = omega arith
-
-add-cells-fit-17 : tie.Need-add-cells-fit-17
-add-cells-fit-17 c = omega arith
 
 cells-fit-requires-9 : tie.Need-cells-fit-requires-9
 unfolding allowed
@@ -150,38 +99,38 @@ pub strand-fits-spec : {M : Type 1} → statement M
 strand-fits-spec =
     tie.close
     (tie.spec
-    add-cells-fit
+    (λ c. omega arith)
     cells-fit-requires
     returns
-    add-cells-fit-2
-    add-cells-fit-3
+    (λ c. omega arith)
+    (λ c. omega arith)
     cells-fit-requires-2
     returns-2
-    add-cells-fit-4
-    add-cells-fit-5
+    (λ c. omega arith)
+    (λ c. omega arith)
     cells-fit-requires-3
     returns-3
-    add-cells-fit-6
-    add-cells-fit-7
+    (λ c. omega arith)
+    (λ c. omega arith)
     cells-fit-requires-4
     returns-4
-    add-cells-fit-8
-    add-cells-fit-9
+    (λ c. omega arith)
+    (λ c. omega arith)
     cells-fit-requires-5
     returns-5
-    add-cells-fit-10
-    add-cells-fit-11
+    (λ c. omega arith)
+    (λ c. omega arith)
     cells-fit-requires-6
     returns-6
-    add-cells-fit-12
-    add-cells-fit-13
+    (λ c. omega arith)
+    (λ c. omega arith)
     cells-fit-requires-7
     returns-7
-    add-cells-fit-14
-    add-cells-fit-15
+    (λ c. omega arith)
+    (λ c. omega arith)
     cells-fit-requires-8
     returns-8
-    add-cells-fit-16
-    add-cells-fit-17
+    (λ c. omega arith)
+    (λ c. omega arith)
     cells-fit-requires-9
     returns-9)

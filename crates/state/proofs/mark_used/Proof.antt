@@ -8,30 +8,6 @@ use Rattle.state.proofs.Lent.{lent-side}
 use Rattle.state.proofs.mark_used.Statement.{statement}
 use Rattle.state.proofs.mark_used.Tie as tie
 
-side-start-requires : tie.Need-side-start-requires
-side-start-requires c κs = search needs
-
-add-end : tie.Need-add-end
-add-end c = search needs
-
-mul-set-used : tie.Need-mul-set-used
-mul-set-used c = search needs
-
-sub-set-used : tie.Need-sub-set-used
-sub-set-used c = search needs
-
-part-set-used-start : tie.Need-part-set-used-start
-part-set-used-start c = search needs
-
-part-set-used-end : tie.Need-part-set-used-end
-part-set-used-end c = search needs
-
-set-used-requires : tie.Need-set-used-requires
-set-used-requires c κs = search needs
-
-same-length : tie.Need-same-length
-same-length c = search needs
-
 returns : tie.Need-returns
 returns c =
     let call = c .before .before in
@@ -44,12 +20,12 @@ pub mark-used-spec : {M : Type 1} → statement M
 mark-used-spec =
     tie.close
     (tie.spec
-    side-start-requires
-    add-end
-    mul-set-used
-    sub-set-used
-    part-set-used-start
-    part-set-used-end
-    set-used-requires
-    same-length
+    (λ c κs. search needs)
+    (λ c. search needs)
+    (λ c. search needs)
+    (λ c. search needs)
+    (λ c. search needs)
+    (λ c. search needs)
+    (λ c κs. search needs)
+    (λ c. search needs)
     returns)

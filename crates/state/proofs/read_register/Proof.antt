@@ -5,19 +5,10 @@ use Rattle.state.proofs.Parts.{register-read}
 use Rattle.state.proofs.read_register.Statement.{statement}
 use Rattle.state.proofs.read_register.Tie as tie
 
-cell-requires : tie.Need-cell-requires
-cell-requires c κs = search needs
-
-mul-result : tie.Need-mul-result
-mul-result c = search needs
-
-shared-slice-read-result : tie.Need-shared-slice-read-result
-shared-slice-read-result c = search needs
-
 returns : tie.Need-returns
 returns c =
     let start = c .before .before .before in
     rw (c .before .cell .ensures) (register-read counts (start .args .state .now) (start .args .strand) (start .args .number) (start .pre .1) (start .pre .2))
 
 pub read-register-spec : {M : Type 1} → statement M
-read-register-spec = tie.close (tie.spec cell-requires mul-result shared-slice-read-result returns)
+read-register-spec = tie.close (tie.spec (λ c κs. search needs) (λ c. search needs) (λ c. search needs) returns)

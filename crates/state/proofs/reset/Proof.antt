@@ -24,29 +24,11 @@ returns c = let e = ne-eqb _ _ (c .if1 .taken) in (rw e, rw e)
 loop-holds : tie.Need-loop-holds Inv-loop μ-loop
 loop-holds c = (search needs, c .if1 .left, λ k h. absurd (omega arith))
 
-reset-word-requires : tie.Need-reset-word-requires Inv-loop μ-loop
-reset-word-requires c κs = search needs
-
-mul-state : tie.Need-mul-state Inv-loop μ-loop
-mul-state c = omega arith
-
-slice-write-state : tie.Need-slice-write-state Inv-loop μ-loop
-slice-write-state c = omega arith
-
-add-i : tie.Need-add-i Inv-loop μ-loop
-add-i c = omega arith
-
-loop-less : tie.Need-loop-less Inv-loop μ-loop
-loop-less c = omega arith
-
 loop-again : tie.Need-loop-again Inv-loop μ-loop
 loop-again c =
     let l = c .before .before .loop in
     let v = c .reset-word .result in
     (omega arith, length-set (l .state) (l .i) v ∙ l .inv .1, filled-more resetWord (l .state) (l .i) v (omega arith) (c .reset-word .ensures) (l .inv .2))
-
-same-length : tie.Need-same-length Inv-loop μ-loop
-same-length c = omega arith
 
 returns-2 : tie.Need-returns-2 Inv-loop μ-loop
 unfolding resetOf resetNumber
@@ -63,11 +45,11 @@ reset-spec =
     μ-loop
     returns
     loop-holds
-    reset-word-requires
-    mul-state
-    slice-write-state
-    add-i
-    loop-less
+    (λ c κs. search needs)
+    (λ c. omega arith)
+    (λ c. omega arith)
+    (λ c. omega arith)
+    (λ c. omega arith)
     loop-again
-    same-length
+    (λ c. omega arith)
     returns-2)

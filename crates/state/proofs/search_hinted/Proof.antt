@@ -8,7 +8,7 @@ use Rattle.laws.proofs.Finds.{first-only}
 use Rattle.laws.specs.Tests.{allOf}
 use Rattle.machine.specs.Slots.{noSlot, answersTo}
 use Rattle.machine.specs.Sound.{slotSound, sideSound}
-use Rattle.machine.specs.State.{counts, State, stateOf, sideOf}
+use Rattle.machine.specs.State.{counts, State, stateIn, sideOf}
 use Rattle.machine.specs.declared.Slot.{Slot}
 use Rattle.machine.proofs.Insertion.{one-answers}
 use Rattle.machine.proofs.State.{sound-side}
@@ -16,69 +16,36 @@ use Rattle.state.proofs.Lent.{side-slots}
 use Rattle.state.proofs.search_hinted.Statement.{statement}
 use Rattle.state.proofs.search_hinted.Tie as tie
 
-hint-place-requires : tie.Need-hint-place-requires
-hint-place-requires c κs = search needs
-
-element-copy-out-hint : tie.Need-element-copy-out-hint
-element-copy-out-hint c = search needs
-
-cast-hint : tie.Need-cast-hint
-cast-hint c = search needs
-
-slot-of-requires : tie.Need-slot-of-requires
-slot-of-requires c κs = search needs
-
-answers-requires : tie.Need-answers-requires
-answers-requires c κs = search needs
-
 returns : tie.Need-returns
 unfolding sideSound
 returns c =
     let asked = c .before in
     let slot = asked .before in
     let start = slot .before .before .before .before in
-    let u : State = stateOf counts (start .args .state .now) in
+    let u : State = stateIn (start .args .state .now) in
     let side : List Slot = sideOf u (start .args .side) in
     let one = one-answers (start .args .key) side (and-right (allOf slotSound side) _ (sound-side counts u (start .pre .2) (start .args .side) .1)) in
     sym (first-only (answersTo (start .args .key)) side _ noSlot one
     (omega (arith, side-slots (start .args .state .now) (start .pre .0) (start .args .side)))
     (rw (← (slot .slot-of .ensures)) (sym (asked .answers .ensures) ∙ c .if1 .taken)))
 
-search-side-requires : tie.Need-search-side-requires
-search-side-requires c κs = search needs
-
-enum-known-found : tie.Need-enum-known-found
-enum-known-found c = search needs
-
-cast-hints : tie.Need-cast-hints
-cast-hints c = search needs
-
-element-write-hints : tie.Need-element-write-hints
-element-write-hints c = search needs
-
-enum-told : tie.Need-enum-told
-enum-told c = search needs
-
 returns-2 : tie.Need-returns-2
 returns-2 c = sym (c .before .found .given .1) ∙ c .before .before .before .search-side .ensures
-
-returns-3 : tie.Need-returns-3
-returns-3 c = search needs
 
 pub search-hinted-spec : {M : Type 1} → statement M
 search-hinted-spec =
     tie.close
     (tie.spec
-    hint-place-requires
-    element-copy-out-hint
-    cast-hint
-    slot-of-requires
-    answers-requires
+    (λ c κs. search needs)
+    (λ c. search needs)
+    (λ c. search needs)
+    (λ c κs. search needs)
+    (λ c κs. search needs)
     returns
-    search-side-requires
-    enum-known-found
-    cast-hints
-    element-write-hints
-    enum-told
+    (λ c κs. search needs)
+    (λ c. search needs)
+    (λ c. search needs)
+    (λ c. search needs)
+    (λ c. search needs)
     returns-2
-    returns-3)
+    (λ c. search needs))

@@ -5,18 +5,6 @@ use Rattle.state.proofs.Parts.{register-stored}
 use Rattle.state.proofs.write_register.Statement.{statement}
 use Rattle.state.proofs.write_register.Tie as tie
 
-cell-requires : tie.Need-cell-requires
-cell-requires c κs = search needs
-
-mul-state : tie.Need-mul-state
-mul-state c = search needs
-
-slice-write-state : tie.Need-slice-write-state
-slice-write-state c = search needs
-
-same-length : tie.Need-same-length
-same-length c = search needs
-
 returns : tie.Need-returns
 returns c =
     let start = c .before .before in
@@ -24,4 +12,4 @@ returns c =
 
 pub write-register-spec : {M : Type 1} → statement M
 write-register-spec =
-    tie.close (tie.spec cell-requires mul-state slice-write-state same-length returns)
+    tie.close (tie.spec (λ c κs. search needs) (λ c. search needs) (λ c. search needs) (λ c. search needs) returns)

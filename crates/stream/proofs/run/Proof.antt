@@ -13,7 +13,7 @@ use lib.ListN.{length}
 use lib.Seq.{sets}
 use Rattle.machine.specs.declared.Decoded.{Decoded}
 use Rattle.machine.specs.declared.Decoded.the-variants.{Known, Stop}
-use Rattle.machine.specs.State.{State, counts, stateWords, stateOf, encode}
+use Rattle.machine.specs.State.{State, counts, stateLength, stateIn, encode}
 use Rattle.machine.specs.State as state
 use Rattle.machine.specs.Step.{step}
 use Rattle.machine.specs.Stream.{Outcome, answerBytes, decodeAt, runOf}
@@ -27,12 +27,12 @@ use Rattle.stream.proofs.run.Tie as tie
 
 record Going (state₀ input output₀ words output : List ℕ) (at answered : ℕ) : Type 0 where
   inside : at ≤ length input
-  size : length words ≡ stateWords counts
-  sound : state.sound counts (stateOf counts words) ≡ true
+  size : length words ≡ stateLength
+  sound : state.sound counts (stateIn words) ≡ true
   kept : length words ≡ length state₀
   room : length output ≡ length output₀
   fits : answered * 24 ≤ length output
-  rest : resume (stateOf counts words) input output answered at ≡ runOf counts state₀ input output₀
+  rest : resume (stateIn words) input output answered at ≡ runOf counts state₀ input output₀
 
 abbrev Inv-loop : tie.InvT-loop
 Inv-loop state₀ input output₀ hints₀ at₀ answered₀ words output hints at answered = Going state₀ input output₀ words output at answered
@@ -42,7 +42,7 @@ abbrev μ-loop : tie.MeasureT-loop
 
 -- a run that ends here leaves the words as they are
 over : {state₀ input output₀ words output : List ℕ} {at answered : ℕ} (k : ℕ) → Going state₀ input output₀ words output at answered
-    → Over (stateOf counts words) input output answered at k
+    → Over (stateIn words) input output answered at k
     → _≡_ {A = Outcome} (record { words = words; output = output; answered = answered; taken = at; stop = k }) (runOf counts state₀ input output₀)
 over {words} k g o = (rw (encode-state counts words (g .size)) at (sym o)) ∙ g .rest
 
@@ -54,16 +54,16 @@ full u input output answered at h r (Known c width) e = resume-full u input outp
 
 -- a command answered leaves the outcome as it is
 module _ {state₀ input output₀ words output : List ℕ} {at answered : ℕ} (g : Going state₀ input output₀ words output at answered)
-    (c : Command) (words′ : List ℕ) (e : words′ ≡ encode (step (stateOf counts words) c .state)) where
-  after : stateOf counts words′ ≡ step (stateOf counts words) c .state
-  after = rw e (sound-encode counts _ (step-sound counts (stateOf counts words) c (g .sound)))
+    (c : Command) (words′ : List ℕ) (e : words′ ≡ encode (step (stateIn words) c .state)) where
+  after : stateIn words′ ≡ step (stateIn words) c .state
+  after = rw e (sound-encode counts _ (step-sound counts (stateIn words) c (g .sound)))
 
-  turn-sound : state.sound counts (stateOf counts words′) ≡ true
-  turn-sound = rw after (step-sound counts (stateOf counts words) c (g .sound))
+  turn-sound : state.sound counts (stateIn words′) ≡ true
+  turn-sound = rw after (step-sound counts (stateIn words) c (g .sound))
 
   turn : (width : ℕ) (a : Answer) (output′ : List ℕ) → at < length input → decodeAt input at ≡ Known c width → answered * 24 + 24 ≤ length output
-      → a ≡ step (stateOf counts words) c .answer → output′ ≡ sets output (answered * 24) (answerBytes a)
-      → resume (stateOf counts words′) input output′ (answered + 1) (at + width) ≡ runOf counts state₀ input output₀
+      → a ≡ step (stateIn words) c .answer → output′ ≡ sets output (answered * 24) (answerBytes a)
+      → resume (stateIn words′) input output′ (answered + 1) (at + width) ≡ runOf counts state₀ input output₀
   turn width a output′ h f r q o = rw (after, o, q) (sym (resume-turn _ _ _ _ _ h f r) ∙ g .rest)
 
 -- ---- the command at the loop's place
@@ -94,12 +94,6 @@ module _ (c : tie.After-decoded Inv-loop μ-loop) where
 
 -- ---- an unsound state
 
-state-sound-requires : tie.Need-state-sound-requires Inv-loop μ-loop
-state-sound-requires c κs = search needs
-
-same-length : tie.Need-same-length Inv-loop μ-loop
-same-length c = search needs
-
 returns : tie.Need-returns Inv-loop μ-loop
 returns c = sym (run-unsound counts _ _ _ (sym (c .before .state-sound .ensures) ∙ not-true _ (c .if1 .taken)))
 
@@ -121,15 +115,6 @@ loop-holds c =
 
 -- no room: numbers 2 and 3, and 4
 
-stop-without-room-requires : tie.Need-stop-without-room-requires Inv-loop μ-loop
-stop-without-room-requires c κs = search needs
-
-same-length-2 : tie.Need-same-length-2 Inv-loop μ-loop
-same-length-2 c = search needs
-
-same-length-3 : tie.Need-same-length-3 Inv-loop μ-loop
-same-length-3 c = search needs
-
 returns-2 : tie.Need-returns-2 Inv-loop μ-loop
 returns-2 c =
     let l = c .before .before .before .loop in
@@ -137,23 +122,11 @@ returns-2 c =
 
 -- numbers 2 and 3
 
-command-at-requires : tie.Need-command-at-requires Inv-loop μ-loop
-command-at-requires c κs = search needs
-
 enum-known-decoded : tie.Need-enum-known-decoded Inv-loop μ-loop
 enum-known-decoded c = c .match .keys1
 
 enum-told : tie.Need-enum-told Inv-loop μ-loop
 enum-told c = c .match .keys2
-
-stop-number-requires : tie.Need-stop-number-requires Inv-loop μ-loop
-stop-number-requires c κs = search needs
-
-same-length-4 : tie.Need-same-length-4 Inv-loop μ-loop
-same-length-4 c = search needs
-
-same-length-5 : tie.Need-same-length-5 Inv-loop μ-loop
-same-length-5 c = search needs
 
 returns-3 : tie.Need-returns-3 Inv-loop μ-loop
 returns-3 c =
@@ -169,12 +142,6 @@ execute-requires : tie.Need-execute-requires Inv-loop μ-loop
 execute-requires c κs =
     let l = c .before .before .before .before .before .before .before .before .loop in
     (l .inv .size, l .inv .sound)
-
-mul-put-answer : tie.Need-mul-put-answer Inv-loop μ-loop
-mul-put-answer c = omega arith
-
-put-answer-requires : tie.Need-put-answer-requires Inv-loop μ-loop
-put-answer-requires c κs = omega arith
 
 -- the turn's command, from where the turn ends
 abbrev decoded : tie.After-slice-known4 Inv-loop μ-loop → tie.After-decoded Inv-loop μ-loop
@@ -198,20 +165,14 @@ loop-again c =
     record {
       inside = within d .fits;
       size = did .kept .0 ∙ l .inv .size;
-      sound = turn-sound (l .inv) _ _ (did .ensures .0);
+      sound = turn-sound (l .inv) _ _ (did .ensures .words);
       kept = did .kept .0 ∙ l .inv .kept;
       room = put .kept .0 ∙ l .inv .room;
       fits = omega (arith, put .kept .0);
-      rest = turn (l .inv) _ _ (did .ensures .0) _ _ _ (omega arith) (found d) (omega arith) (did .ensures .1) (put .ensures);
+      rest = turn (l .inv) _ _ (did .ensures .words) _ _ _ (omega arith) (found d) (omega arith) (did .ensures .answer) (put .ensures);
     }
 
 -- the end of the input
-
-same-length-6 : tie.Need-same-length-6 Inv-loop μ-loop
-same-length-6 c = search needs
-
-same-length-7 : tie.Need-same-length-7 Inv-loop μ-loop
-same-length-7 c = search needs
 
 returns-4 : tie.Need-returns-4 Inv-loop μ-loop
 returns-4 c = over 0 (c .before .loop .inv) (resume-end _ _ _ _ _ (omega arith))
@@ -222,28 +183,28 @@ run-spec =
     (tie.spec
     Inv-loop
     μ-loop
-    state-sound-requires
-    same-length
+    (λ c κs. search needs)
+    (λ c. search needs)
     returns
     loop-holds
-    stop-without-room-requires
-    same-length-2
-    same-length-3
+    (λ c κs. search needs)
+    (λ c. search needs)
+    (λ c. search needs)
     returns-2
-    command-at-requires
+    (λ c κs. search needs)
     enum-known-decoded
     enum-told
-    stop-number-requires
-    same-length-4
-    same-length-5
+    (λ c κs. search needs)
+    (λ c. search needs)
+    (λ c. search needs)
     returns-3
     execute-requires
-    mul-put-answer
-    put-answer-requires
+    (λ c. omega arith)
+    (λ c κs. omega arith)
     add-at
     add-answered
     loop-less
     loop-again
-    same-length-6
-    same-length-7
+    (λ c. search needs)
+    (λ c. search needs)
     returns-4)

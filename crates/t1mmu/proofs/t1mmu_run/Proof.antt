@@ -4,17 +4,8 @@ use Rattle.t1mmu.proofs.Calls.{run-call}
 use Rattle.t1mmu.proofs.t1mmu_run.Statement.{statement}
 use Rattle.t1mmu.proofs.t1mmu_run.Tie as tie
 
-run-requires : tie.Need-run-requires
-run-requires c κs = search needs
-
-same-length : tie.Need-same-length
-same-length c = search needs
-
-same-length-2 : tie.Need-same-length-2
-same-length-2 c = search needs
-
 returns : tie.Need-returns
 returns c = run-call _ _ _ _ _ _ (c .before .before .before .before .run .ensures)
 
 pub t1mmu-run-spec : {M : Type 1} → statement M
-t1mmu-run-spec = tie.close (tie.spec run-requires same-length same-length-2 returns)
+t1mmu-run-spec = tie.close (tie.spec (λ c κs. search needs) (λ c. search needs) (λ c. search needs) returns)

@@ -12,44 +12,11 @@ use Rattle.tlb.specs.Tables.{answersBy}
 use Rattle.tlb.proofs.answers_at.Statement.{statement}
 use Rattle.tlb.proofs.answers_at.Tie as tie
 
-mul-k : tie.Need-mul-k
-mul-k c = search needs
-
-mul-if1 : tie.Need-mul-if1
-mul-if1 c = search needs
-
-shared-slice-read-if1 : tie.Need-shared-slice-read-if1
-shared-slice-read-if1 c = search needs
-
 returns : tie.Need-returns
 unfolding answersBy
 returns c =
     let a = c .before .before .args in
     sym (on-slot (answersBy (a .owner) (a .start .now)) (a .slots .now) (a .i) (omega arith) (rw (ne-eqb _ _ (c .if1 .taken)) (and-no (isLive (slotAt (a .slots .now) (a .i * 4))))))
-
-add-word : tie.Need-add-word
-add-word c = search needs
-
-mul-word : tie.Need-mul-word
-mul-word c = search needs
-
-shared-slice-read-word : tie.Need-shared-slice-read-word
-shared-slice-read-word c = search needs
-
-add-if2 : tie.Need-add-if2
-add-if2 c = search needs
-
-mul-if2 : tie.Need-mul-if2
-mul-if2 c = search needs
-
-shared-slice-read-if2 : tie.Need-shared-slice-read-if2
-shared-slice-read-if2 c = search needs
-
-mul-if2-2 : tie.Need-mul-if2-2
-mul-if2-2 c = search needs
-
-element-copy-out-if2 : tie.Need-element-copy-out-if2
-element-copy-out-if2 c = search needs
 
 returns-2 : tie.Need-returns-2
 unfolding answersBy
@@ -71,17 +38,17 @@ pub answers-at-spec : {M : Type 1} → statement M
 answers-at-spec =
     tie.close
     (tie.spec
-    mul-k
-    mul-if1
-    shared-slice-read-if1
+    (λ c. search needs)
+    (λ c. search needs)
+    (λ c. search needs)
     returns
-    add-word
-    mul-word
-    shared-slice-read-word
-    add-if2
-    mul-if2
-    shared-slice-read-if2
-    mul-if2-2
-    element-copy-out-if2
+    (λ c. search needs)
+    (λ c. search needs)
+    (λ c. search needs)
+    (λ c. search needs)
+    (λ c. search needs)
+    (λ c. search needs)
+    (λ c. search needs)
+    (λ c. search needs)
     returns-2
     returns-3)

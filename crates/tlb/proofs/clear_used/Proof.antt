@@ -21,29 +21,11 @@ loop-holds c = (omega arith, replace-start withoutUsed (c .args .slots .now) (c 
 same : (c : tie.In-loop Inv-loop μ-loop) → length (c .before .loop .slots) ≡ length (c .before .before .args .slots .now)
 same c = ap length (c .before .loop .inv .1) ∙ replace-length withoutUsed (c .before .before .args .slots .now) _ (c .before .before .pre)
 
-mul-k : tie.Need-mul-k Inv-loop μ-loop
-mul-k c = omega arith
-
-add-k : tie.Need-add-k Inv-loop μ-loop
-add-k c = omega arith
-
-mul-slots : tie.Need-mul-slots Inv-loop μ-loop
-mul-slots c = omega arith
-
 slice-read-slots : tie.Need-slice-read-slots Inv-loop μ-loop
 slice-read-slots c = omega (arith, same (c .before))
 
-mul-slots-2 : tie.Need-mul-slots-2 Inv-loop μ-loop
-mul-slots-2 c = omega arith
-
 slice-write-slots : tie.Need-slice-write-slots Inv-loop μ-loop
 slice-write-slots c = omega (arith, same (c .before))
-
-add-i : tie.Need-add-i Inv-loop μ-loop
-add-i c = omega arith
-
-loop-less : tie.Need-loop-less Inv-loop μ-loop
-loop-less c = omega arith
 
 loop-again : tie.Need-loop-again Inv-loop μ-loop
 loop-again c =
@@ -69,14 +51,14 @@ clear-used-spec =
     Inv-loop
     μ-loop
     loop-holds
-    mul-k
-    add-k
-    mul-slots
+    (λ c. omega arith)
+    (λ c. omega arith)
+    (λ c. omega arith)
     slice-read-slots
-    mul-slots-2
+    (λ c. omega arith)
     slice-write-slots
-    add-i
-    loop-less
+    (λ c. omega arith)
+    (λ c. omega arith)
     loop-again
     same-length
     returns)

@@ -5,18 +5,6 @@ use borrow.Author.Needs.{needs}
 use Rattle.tlb.proofs.key_owner.Statement.{statement}
 use Rattle.tlb.proofs.key_owner.Tie as tie
 
-enum-known-key : tie.Need-enum-known-key
-enum-known-key c = search needs
-
-owner-word-requires : tie.Need-owner-word-requires
-owner-word-requires c κs = search needs
-
-enum-known-key-2 : tie.Need-enum-known-key-2
-enum-known-key-2 c = search needs
-
-owner-word-requires-2 : tie.Need-owner-word-requires-2
-owner-word-requires-2 c κs = search needs
-
 returns : tie.Need-returns
 returns c = c .owner-word .ensures ∙ ap keyOwner (sym (c .before .before .key .given .1))
 
@@ -27,9 +15,9 @@ pub key-owner-spec : {M : Type 1} → statement M
 key-owner-spec =
     tie.close
     (tie.spec
-    enum-known-key
-    owner-word-requires
-    enum-known-key-2
-    owner-word-requires-2
+    (λ c. search needs)
+    (λ c κs. search needs)
+    (λ c. search needs)
+    (λ c κs. search needs)
     returns
     returns-2)

@@ -8,9 +8,6 @@ use borrow.Author.Needs.{needs}
 use Rattle.tlb.proofs.match_page.Statement.{statement}
 use Rattle.tlb.proofs.match_page.Tie as tie
 
-page-start-requires : tie.Need-page-start-requires
-page-start-requires c κs = search needs
-
 returns : tie.Need-returns
 unfolding pageMatch
 returns c =
@@ -18,9 +15,6 @@ returns c =
     let t : holds (a .x) (a .address) ≡ false =
     ap (λ n. eqb n (a .x .page)) (sym (c .before .before .page-start .ensures)) ∙ ne-eqb _ _ (c .if1 .taken) in
     rw t
-
-page-offset-requires : tie.Need-page-offset-requires
-page-offset-requires c κs = search needs
 
 returns-2 : tie.Need-returns-2
 unfolding pageMatch
@@ -32,4 +26,4 @@ returns-2 c =
     rw (t, c .page-offset .ensures)
 
 pub match-page-spec : {M : Type 1} → statement M
-match-page-spec = tie.close (tie.spec page-start-requires returns page-offset-requires returns-2)
+match-page-spec = tie.close (tie.spec (λ c κs. search needs) returns (λ c κs. search needs) returns-2)

@@ -8,15 +8,9 @@ use borrow.Author.Needs.{needs}
 use Rattle.tlb.proofs.overlap.Statement.{statement}
 use Rattle.tlb.proofs.overlap.Tie as tie
 
-is-live-requires : tie.Need-is-live-requires
-is-live-requires c κs = search needs
-
 returns : tie.Need-returns
 unfolding overlaps
 returns c = rw (sym (c .before .is-live .ensures) ∙ not-true _ (c .if1 .taken))
-
-is-live-requires-2 : tie.Need-is-live-requires-2
-is-live-requires-2 c κs = search needs
 
 returns-2 : tie.Need-returns-2
 unfolding overlaps
@@ -49,14 +43,8 @@ pages c =
       eq-eqb _ _ (c .if3 .left),
     )
 
-page-start-requires : tie.Need-page-start-requires
-page-start-requires c κs = search needs
-
 returns-4 : tie.Need-returns-4
 returns-4 c = sym (pages (c .before .before .before .before) ∙ rw (← (c .before .before .page-start .ensures), eq-eqb _ _ (c .if4 .taken)))
-
-page-start-requires-2 : tie.Need-page-start-requires-2
-page-start-requires-2 c κs = search needs
 
 returns-5 : tie.Need-returns-5
 returns-5 c =
@@ -68,12 +56,12 @@ pub overlap-spec : {M : Type 1} → statement M
 overlap-spec =
     tie.close
     (tie.spec
-    is-live-requires
+    (λ c κs. search needs)
     returns
-    is-live-requires-2
+    (λ c κs. search needs)
     returns-2
     returns-3
-    page-start-requires
+    (λ c κs. search needs)
     returns-4
-    page-start-requires-2
+    (λ c κs. search needs)
     returns-5)

@@ -13,33 +13,6 @@ use Rattle.tlb.proofs.Asked.{over-far}
 use Rattle.tlb.proofs.overlaps_at.Statement.{statement}
 use Rattle.tlb.proofs.overlaps_at.Tie as tie
 
-mul-k : tie.Need-mul-k
-mul-k c = search needs
-
-add-code : tie.Need-add-code
-add-code c = search needs
-
-mul-code : tie.Need-mul-code
-mul-code c = search needs
-
-shared-slice-read-code : tie.Need-shared-slice-read-code
-shared-slice-read-code c = search needs
-
-add-distance : tie.Need-add-distance
-add-distance c = search needs
-
-mul-distance : tie.Need-mul-distance
-mul-distance c = search needs
-
-shared-slice-read-distance : tie.Need-shared-slice-read-distance
-shared-slice-read-distance c = search needs
-
-mul-if1 : tie.Need-mul-if1
-mul-if1 c = search needs
-
-element-copy-out-if1 : tie.Need-element-copy-out-if1
-element-copy-out-if1 c = search needs
-
 returns : tie.Need-returns
 returns c =
     let s = c .before .before .before .before .before .before in
@@ -48,12 +21,6 @@ returns c =
     sym (on-slot (overlaps (a .x)) (a .slots .now) (a .j) (omega arith)
     (over-far (a .x) y (subst (λ (t : List ℕ). getD t (sizeCode y) 0 ≤ bitXor (a .x .page) (y .page)) (s .pre .1) (c .if1 .taken))))
 
-slot-at-requires : tie.Need-slot-at-requires
-slot-at-requires c κs = search needs
-
-overlap-requires : tie.Need-overlap-requires
-overlap-requires c κs = search needs
-
 returns-2 : tie.Need-returns-2
 returns-2 c = c .overlap .ensures ∙ ap (overlaps _) (c .before .slot-at .ensures)
 
@@ -61,16 +28,16 @@ pub overlaps-at-spec : {M : Type 1} → statement M
 overlaps-at-spec =
     tie.close
     (tie.spec
-    mul-k
-    add-code
-    mul-code
-    shared-slice-read-code
-    add-distance
-    mul-distance
-    shared-slice-read-distance
-    mul-if1
-    element-copy-out-if1
+    (λ c. search needs)
+    (λ c. search needs)
+    (λ c. search needs)
+    (λ c. search needs)
+    (λ c. search needs)
+    (λ c. search needs)
+    (λ c. search needs)
+    (λ c. search needs)
+    (λ c. search needs)
     returns
-    slot-at-requires
-    overlap-requires
+    (λ c κs. search needs)
+    (λ c κs. search needs)
     returns-2)

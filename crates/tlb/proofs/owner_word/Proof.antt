@@ -5,15 +5,6 @@ use borrow.Author.Needs.{needs}
 use Rattle.tlb.proofs.owner_word.Statement.{statement}
 use Rattle.tlb.proofs.owner_word.Tie as tie
 
-mul-owner : tie.Need-mul-owner
-mul-owner c = search needs
-
-add-owner : tie.Need-add-owner
-add-owner c = search needs
-
-add-result : tie.Need-add-result
-add-result c = search needs
-
 returns : tie.Need-returns
 returns c = rw (c .if1 .taken) (omega arith)
 
@@ -21,4 +12,4 @@ returns-2 : tie.Need-returns-2
 returns-2 c = rw (c .if1 .left) (omega arith)
 
 pub owner-word-spec : {M : Type 1} → statement M
-owner-word-spec = tie.close (tie.spec mul-owner add-owner add-result returns returns-2)
+owner-word-spec = tie.close (tie.spec (λ c. search needs) (λ c. search needs) (λ c. search needs) returns returns-2)

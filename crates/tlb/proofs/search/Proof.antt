@@ -7,18 +7,6 @@ use Rattle.tlb.proofs.Asked.{asked}
 use Rattle.tlb.proofs.search.Statement.{statement}
 use Rattle.tlb.proofs.search.Tie as tie
 
-key-address-requires : tie.Need-key-address-requires
-key-address-requires c κs = search needs
-
-starts-requires : tie.Need-starts-requires
-starts-requires c κs = search needs
-
-key-owner-requires : tie.Need-key-owner-requires
-key-owner-requires c κs = search needs
-
-search-starts-requires : tie.Need-search-starts-requires
-search-starts-requires c κs = search needs
-
 returns : tie.Need-returns
 returns c =
     let owner = c .before .before in
@@ -29,4 +17,4 @@ returns c =
 
 pub search-spec : {M : Type 1} → statement M
 search-spec =
-    tie.close (tie.spec key-address-requires starts-requires key-owner-requires search-starts-requires returns)
+    tie.close (tie.spec (λ c κs. search needs) (λ c κs. search needs) (λ c κs. search needs) (λ c κs. search needs) returns)

@@ -21,20 +21,11 @@ abbrev μ-loop : tie.MeasureT-loop
 loop-holds : tie.Need-loop-holds Inv-loop μ-loop
 loop-holds c = refl
 
-answers-at-requires : tie.Need-answers-at-requires Inv-loop μ-loop
-answers-at-requires c κs = omega arith
-
 returns : tie.Need-returns Inv-loop μ-loop
 returns c =
     let at = c .before .before .before in
     let l = at .before .before .args .slots .now in
     sym (at .loop .inv ∙ first-hit noSlot (slotsOf l) (at .loop .i) _ (omega (arith, slots-length l)) (sym (c .before .answers-at .ensures) ∙ c .if1 .taken))
-
-add-i : tie.Need-add-i Inv-loop μ-loop
-add-i c = omega arith
-
-loop-less : tie.Need-loop-less Inv-loop μ-loop
-loop-less c = omega arith
 
 loop-again : tie.Need-loop-again Inv-loop μ-loop
 loop-again c =
@@ -54,9 +45,9 @@ search-rest-spec =
     Inv-loop
     μ-loop
     loop-holds
-    answers-at-requires
+    (λ c κs. omega arith)
     returns
-    add-i
-    loop-less
+    (λ c. omega arith)
+    (λ c. omega arith)
     loop-again
     returns-2)

@@ -4,14 +4,8 @@ use borrow.Author.Needs.{needs}
 use Rattle.tlb.proofs.search_starts.Statement.{statement}
 use Rattle.tlb.proofs.search_starts.Tie as tie
 
-skip-requires : tie.Need-skip-requires
-skip-requires c κs = search needs
-
-search-rest-requires : tie.Need-search-rest-requires
-search-rest-requires c κs = search needs
-
 returns : tie.Need-returns
 returns c = c .search-rest .ensures ∙ sym (c .before .skip .ensures)
 
 pub search-starts-spec : {M : Type 1} → statement M
-search-starts-spec = tie.close (tie.spec skip-requires search-rest-requires returns)
+search-starts-spec = tie.close (tie.spec (λ c κs. search needs) (λ c κs. search needs) returns)

@@ -19,15 +19,6 @@ abbrev μ-loop : tie.MeasureT-loop
 loop-holds : tie.Need-loop-holds Inv-loop μ-loop
 loop-holds c = (omega arith, refl)
 
-add-loop : tie.Need-add-loop Inv-loop μ-loop
-add-loop c = omega arith
-
-skip-four-requires : tie.Need-skip-four-requires Inv-loop μ-loop
-skip-four-requires c κs = omega arith
-
-add-result : tie.Need-add-result Inv-loop μ-loop
-add-result c = omega arith
-
 returns : tie.Need-returns Inv-loop μ-loop
 returns c = c .before .before .before .loop .inv .1 ∙ c .before .skip-four .ensures .1
 
@@ -36,18 +27,6 @@ past-one : (c : tie.Else1 Inv-loop μ-loop) →
     let a = at .before .before .args in
     Skips (a .owner) (a .start .now) (a .slots .now) 0 (at .loop .i + 4)
 past-one c = on _ _ _ _ (c .before .before .before .loop .inv .1) (c .before .skip-four .ensures .1) (omega arith)
-
-add-skip-four : tie.Need-add-skip-four Inv-loop μ-loop
-add-skip-four c = omega arith
-
-skip-four-requires-2 : tie.Need-skip-four-requires-2 Inv-loop μ-loop
-skip-four-requires-2 c κs = omega arith
-
-add-result-2 : tie.Need-add-result-2 Inv-loop μ-loop
-add-result-2 c = omega arith
-
-add-result-3 : tie.Need-add-result-3 Inv-loop μ-loop
-add-result-3 c = omega arith
 
 returns-2 : tie.Need-returns-2 Inv-loop μ-loop
 returns-2 c = past-one (c .before .before) ∙ c .before .skip-four2 .ensures .1
@@ -58,18 +37,6 @@ past-two : (c : tie.Else2 Inv-loop μ-loop) →
     Skips (a .owner) (a .start .now) (a .slots .now) 0 (at .loop .i + 8)
 past-two c = on _ _ _ _ (past-one (c .before .before)) (c .before .skip-four2 .ensures .1) (omega arith)
 
-add-skip-four-2 : tie.Need-add-skip-four-2 Inv-loop μ-loop
-add-skip-four-2 c = omega arith
-
-skip-four-requires-3 : tie.Need-skip-four-requires-3 Inv-loop μ-loop
-skip-four-requires-3 c κs = omega arith
-
-add-result-4 : tie.Need-add-result-4 Inv-loop μ-loop
-add-result-4 c = omega arith
-
-add-result-5 : tie.Need-add-result-5 Inv-loop μ-loop
-add-result-5 c = omega arith
-
 returns-3 : tie.Need-returns-3 Inv-loop μ-loop
 returns-3 c = past-two (c .before .before) ∙ c .before .skip-four3 .ensures .1
 
@@ -79,26 +46,8 @@ past-three : (c : tie.Else3 Inv-loop μ-loop) →
     Skips (a .owner) (a .start .now) (a .slots .now) 0 (at .loop .i + 12)
 past-three c = on _ _ _ _ (past-two (c .before .before)) (c .before .skip-four3 .ensures .1) (omega arith)
 
-add-skip-four-3 : tie.Need-add-skip-four-3 Inv-loop μ-loop
-add-skip-four-3 c = omega arith
-
-skip-four-requires-4 : tie.Need-skip-four-requires-4 Inv-loop μ-loop
-skip-four-requires-4 c κs = omega arith
-
-add-result-6 : tie.Need-add-result-6 Inv-loop μ-loop
-add-result-6 c = omega arith
-
-add-result-7 : tie.Need-add-result-7 Inv-loop μ-loop
-add-result-7 c = omega arith
-
 returns-4 : tie.Need-returns-4 Inv-loop μ-loop
 returns-4 c = past-three (c .before .before) ∙ c .before .skip-four4 .ensures .1
-
-add-i : tie.Need-add-i Inv-loop μ-loop
-add-i c = omega arith
-
-loop-less : tie.Need-loop-less Inv-loop μ-loop
-loop-less c = omega arith
 
 loop-again : tie.Need-loop-again Inv-loop μ-loop
 loop-again c = (omega arith, on _ _ _ _ (past-three (c .before .before)) (c .before .skip-four4 .ensures .1) (omega arith))
@@ -113,26 +62,26 @@ skip-spec =
     Inv-loop
     μ-loop
     loop-holds
-    add-loop
-    skip-four-requires
-    add-result
+    (λ c. omega arith)
+    (λ c κs. omega arith)
+    (λ c. omega arith)
     returns
-    add-skip-four
-    skip-four-requires-2
-    add-result-2
-    add-result-3
+    (λ c. omega arith)
+    (λ c κs. omega arith)
+    (λ c. omega arith)
+    (λ c. omega arith)
     returns-2
-    add-skip-four-2
-    skip-four-requires-3
-    add-result-4
-    add-result-5
+    (λ c. omega arith)
+    (λ c κs. omega arith)
+    (λ c. omega arith)
+    (λ c. omega arith)
     returns-3
-    add-skip-four-3
-    skip-four-requires-4
-    add-result-6
-    add-result-7
+    (λ c. omega arith)
+    (λ c κs. omega arith)
+    (λ c. omega arith)
+    (λ c. omega arith)
     returns-4
-    add-i
-    loop-less
+    (λ c. omega arith)
+    (λ c. omega arith)
     loop-again
     returns-5)

@@ -17,9 +17,6 @@ more : (owner : ℕ) (start l : List ℕ) (from i j : ℕ) → i * 4 + 4 ≤ len
     → Skips owner start l from i → answersBy owner start (slotOf l i) ≡ false → Skips owner start l from j
 more owner start l from i j h e w n = rw e (w ∙ first-pass noSlot (slotsOf l) i (answersBy owner start) (omega (arith, slots-length l)) n)
 
-answers-at-requires : tie.Need-answers-at-requires
-answers-at-requires c κs = omega arith
-
 returns : tie.Need-returns
 returns c =
     let i = c .before .before .before .args .from in
@@ -31,12 +28,6 @@ past-one c =
     let a = c .before .before .before .args in
     more _ _ _ (a .from) (a .from) _ (omega arith) refl refl (sym (c .before .answers-at .ensures) ∙ c .if1 .left)
 
-add-answers-at : tie.Need-add-answers-at
-add-answers-at c = omega arith
-
-answers-at-requires-2 : tie.Need-answers-at-requires-2
-answers-at-requires-2 c κs = omega arith
-
 returns-2 : tie.Need-returns-2
 returns-2 c = (omega arith, past-one (c .before .before))
 
@@ -45,12 +36,6 @@ past-two c =
     let one = c .before .before in
     let i = one .before .before .before .args .from in
     more _ _ _ i (i + 1) _ (omega arith) (omega arith) (past-one one) (sym (c .before .answers-at2 .ensures) ∙ c .if2 .left)
-
-add-answers-at-2 : tie.Need-add-answers-at-2
-add-answers-at-2 c = omega arith
-
-answers-at-requires-3 : tie.Need-answers-at-requires-3
-answers-at-requires-3 c κs = omega arith
 
 returns-3 : tie.Need-returns-3
 returns-3 c = (omega arith, past-two (c .before .before))
@@ -62,12 +47,6 @@ past-three c =
     let two = c .before .before in
     let i = two .before .before .before .before .before .args .from in
     more _ _ _ i (i + 2) _ (omega arith) (omega arith) (past-two two) (sym (c .before .answers-at3 .ensures) ∙ c .if3 .left)
-
-add-answers-at-3 : tie.Need-add-answers-at-3
-add-answers-at-3 c = omega arith
-
-answers-at-requires-4 : tie.Need-answers-at-requires-4
-answers-at-requires-4 c κs = omega arith
 
 returns-4 : tie.Need-returns-4
 returns-4 c = (omega arith, past-three (c .before .before))
@@ -82,15 +61,15 @@ pub skip-four-spec : {M : Type 1} → statement M
 skip-four-spec =
     tie.close
     (tie.spec
-    answers-at-requires
+    (λ c κs. omega arith)
     returns
-    add-answers-at
-    answers-at-requires-2
+    (λ c. omega arith)
+    (λ c κs. omega arith)
     returns-2
-    add-answers-at-2
-    answers-at-requires-3
+    (λ c. omega arith)
+    (λ c κs. omega arith)
     returns-3
-    add-answers-at-3
-    answers-at-requires-4
+    (λ c. omega arith)
+    (λ c κs. omega arith)
     returns-4
     returns-5)

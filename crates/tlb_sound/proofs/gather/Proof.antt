@@ -7,9 +7,6 @@ use Rattle.tlb_sound.specs.Digests.{reach}
 use Rattle.tlb_sound.proofs.gather.Statement.{statement}
 use Rattle.tlb_sound.proofs.gather.Tie as tie
 
-wrapping-add-u64-requires : tie.Need-wrapping-add-u64-requires
-wrapping-add-u64-requires c κs = search needs
-
 returns : tie.Need-returns
 unfolding reach
 returns c =
@@ -17,4 +14,4 @@ returns c =
     rw (sum .wrapping-add-u64 .ensures, lt-ltb (sum .before .args .x .page) (2 ^ 64) (omega arith))
 
 pub gather-spec : {M : Type 1} → statement M
-gather-spec = tie.close (tie.spec wrapping-add-u64-requires returns)
+gather-spec = tie.close (tie.spec (λ c κs. search needs) returns)

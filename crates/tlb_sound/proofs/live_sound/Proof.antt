@@ -14,9 +14,6 @@ use Rattle.tlb_sound.proofs.Digests.{live-left, listed-mask}
 use Rattle.tlb_sound.proofs.live_sound.Statement.{statement}
 use Rattle.tlb_sound.proofs.live_sound.Tie as tie
 
-page-mask-requires : tie.Need-page-mask-requires
-page-mask-requires c κs = search needs
-
 -- whether the size is listed, by the mask
 by-mask : (c : tie.After-page-mask) {b : Bool} → eqb (c .page-mask .result) 0 ≡ b → listed (sizeCode (c .before .before .args .x)) ≡ not b
 by-mask c e = listed-mask (sizeCode (c .before .before .args .x)) ∙ ap (λ (m : ℕ). not (eqb m 0)) (sym (c .page-mask .ensures)) ∙ ap not e
@@ -49,4 +46,4 @@ returns-3 c =
     ∙ rw (by-mask mask (ne-eqb _ _ (c .before .before .before .if1 .left)), at-start mask (eq-eqb _ _ (c .before .if2 .left))) (and-true (leb (x .owner % 2 ^ 14) (2 ^ 13))))
 
 pub live-sound-spec : {M : Type 1} → statement M
-live-sound-spec = tie.close (tie.spec page-mask-requires returns returns-2 returns-3)
+live-sound-spec = tie.close (tie.spec (λ c κs. search needs) returns returns-2 returns-3)

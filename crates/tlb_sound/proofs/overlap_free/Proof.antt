@@ -30,9 +30,6 @@ Inv-loop slots code seen₀ mark most i₀ seen i =
 abbrev μ-loop : tie.MeasureT-loop
 μ-loop slots code seen₀ mark most i₀ seen i = i
 
-block-shift-requires : tie.Need-block-shift-requires Inv-loop μ-loop
-block-shift-requires c κs = search needs
-
 loop-holds : tie.Need-loop-holds Inv-loop μ-loop
 loop-holds c =
     let a = c .before .before .before .args in
@@ -43,12 +40,6 @@ loop-holds c =
       pair-end noSlot (slotsOf l) n overlaps (omega (arith, slots-length l)),
       none-marked (c .block-shift .result) (a .seen .now) (a .mark) (slotsOf l) n (omega (arith, slots-length l)),
     )
-
-sub-i : tie.Need-sub-i Inv-loop μ-loop
-sub-i c = omega arith
-
-slot-at-requires : tie.Need-slot-at-requires Inv-loop μ-loop
-slot-at-requires c κs = omega arith
 
 -- ---- what a turn knows, of the slot j = i - 1 that it reads
 within : (c : tie.After-slot-at Inv-loop μ-loop) →
@@ -79,9 +70,6 @@ bucket-requires : tie.Need-bucket-requires Inv-loop μ-loop
 bucket-requires c κs =
     let big = c .before .before .before .before .before in
     omega (arith, big .block-shift .ensures, block-small (big .before .before .before .args .code))
-
-add-shared-overlaps-none : tie.Need-add-shared-overlaps-none Inv-loop μ-loop
-add-shared-overlaps-none c = omega arith
 
 -- the bucket is one of the table
 inside : (c : tie.After-bucket Inv-loop μ-loop) → c .bucket .result < length (c .before .before .before .before .before .loop .seen)
@@ -131,9 +119,6 @@ returns c =
 slice-write-seen : tie.Need-slice-write-seen Inv-loop μ-loop
 slice-write-seen c = inside (c .before .before .before)
 
-loop-less : tie.Need-loop-less Inv-loop μ-loop
-loop-less c = omega arith
-
 loop-again : tie.Need-loop-again Inv-loop μ-loop
 loop-again c =
     let r = c .before .before .before in
@@ -152,9 +137,6 @@ loop-again c =
       pair-pass noSlot s j overlaps (within t) m ∙ rest t,
       mark-live most (at .loop .seen) (at .before .before .before .before .args .mark) s j (within t) (later t) _ b (inside r),
     )
-
-loop-less-2 : tie.Need-loop-less-2 Inv-loop μ-loop
-loop-less-2 c = omega arith
 
 loop-again-2 : tie.Need-loop-again-2 Inv-loop μ-loop
 loop-again-2 c =
@@ -185,20 +167,20 @@ overlap-free-spec =
     (tie.spec
     Inv-loop
     μ-loop
-    block-shift-requires
+    (λ c κs. search needs)
     loop-holds
-    sub-i
-    slot-at-requires
+    (λ c. omega arith)
+    (λ c κs. omega arith)
     bucket-requires
-    add-shared-overlaps-none
+    (λ c. omega arith)
     slice-read-shared-overlaps-none
     shared-overlaps-none-requires
     same-length
     returns
     slice-write-seen
-    loop-less
+    (λ c. omega arith)
     loop-again
-    loop-less-2
+    (λ c. omega arith)
     loop-again-2
     same-length-2
     returns-2)

@@ -21,33 +21,6 @@ use borrow.Author.Needs.{needs}
 use Rattle.tlb_sound.proofs.overlaps_sound.Statement.{statement}
 use Rattle.tlb_sound.proofs.overlaps_sound.Tie as tie
 
-mul-k : tie.Need-mul-k
-mul-k c = search needs
-
-add-word : tie.Need-add-word
-add-word c = search needs
-
-mul-word : tie.Need-mul-word
-mul-word c = search needs
-
-shared-slice-read-word : tie.Need-shared-slice-read-word
-shared-slice-read-word c = search needs
-
-add-distance : tie.Need-add-distance
-add-distance c = search needs
-
-mul-distance : tie.Need-mul-distance
-mul-distance c = search needs
-
-shared-slice-read-distance : tie.Need-shared-slice-read-distance
-shared-slice-read-distance c = search needs
-
-mul-if1 : tie.Need-mul-if1
-mul-if1 c = search needs
-
-element-copy-out-if1 : tie.Need-element-copy-out-if1
-element-copy-out-if1 c = search needs
-
 returns : tie.Need-returns
 returns c =
     let f = c .before .before .before .before .before in
@@ -56,12 +29,6 @@ returns c =
     let y = slotAt l (f .args .j * 4) in
     sym (on-slot (overlaps x) l (f .args .j) (f .pre .0)
     (over-far x y (subst (λ (t : List ℕ). getD t (sizeCode y) 0 ≤ bitXor (x .page) (y .page)) (f .pre .4) (c .if1 .taken))))
-
-mul-if2 : tie.Need-mul-if2
-mul-if2 c = search needs
-
-shared-slice-read-if2 : tie.Need-shared-slice-read-if2
-shared-slice-read-if2 c = search needs
 
 returns-2 : tie.Need-returns-2
 returns-2 c =
@@ -87,17 +54,17 @@ pub overlaps-sound-spec : {M : Type 1} → statement M
 overlaps-sound-spec =
     tie.close
     (tie.spec
-    mul-k
-    add-word
-    mul-word
-    shared-slice-read-word
-    add-distance
-    mul-distance
-    shared-slice-read-distance
-    mul-if1
-    element-copy-out-if1
+    (λ c. search needs)
+    (λ c. search needs)
+    (λ c. search needs)
+    (λ c. search needs)
+    (λ c. search needs)
+    (λ c. search needs)
+    (λ c. search needs)
+    (λ c. search needs)
+    (λ c. search needs)
     returns
-    mul-if2
-    shared-slice-read-if2
+    (λ c. search needs)
+    (λ c. search needs)
     returns-2
     returns-3)

@@ -10,11 +10,8 @@ clear-of-later-requires c κs =
     let p = c .before .before .pre in
     (p .0, p .1, p .2)
 
-returns : tie.Need-returns
-returns c = search needs
-
 returns-2 : tie.Need-returns-2
 returns-2 c = ap not (sym (c .before .before .pre .3 (c .if1 .left)))
 
 pub shared-overlaps-none-spec : {M : Type 1} → statement M
-shared-overlaps-none-spec = tie.close (tie.spec clear-of-later-requires returns returns-2)
+shared-overlaps-none-spec = tie.close (tie.spec clear-of-later-requires (λ c. search needs) returns-2)

@@ -11,9 +11,6 @@ use Rattle.tlb_sound.proofs.Digests.{none-overlap, largest-bound}
 use Rattle.tlb_sound.proofs.side_sound.Statement.{statement}
 use Rattle.tlb_sound.proofs.side_sound.Tie as tie
 
-digest-of-requires : tie.Need-digest-of-requires
-digest-of-requires c κs = search needs
-
 slots-sound-requires : tie.Need-slots-sound-requires
 slots-sound-requires c κs = c .digest-of .ensures
 
@@ -38,9 +35,6 @@ overlap-free-requires c κs =
     let d = sound .before .before .digest-of .ensures in
     (slots-sound sound, rw d (largest-bound _), sound .before .before .before .before .before .pre)
 
-same-length : tie.Need-same-length
-same-length c = search needs
-
 returns-3 : tie.Need-returns-3
 unfolding sideSound
 returns-3 c =
@@ -48,4 +42,4 @@ returns-3 c =
     all .overlap-free .ensures ∙ rw (slots-sound (all .before .before .before .before .before))
 
 pub side-sound-spec : {M : Type 1} → statement M
-side-sound-spec = tie.close (tie.spec digest-of-requires slots-sound-requires returns returns-2 overlap-free-requires same-length returns-3)
+side-sound-spec = tie.close (tie.spec (λ c κs. search needs) slots-sound-requires returns returns-2 overlap-free-requires (λ c. search needs) returns-3)

@@ -13,12 +13,9 @@ returns : tie.Need-returns
 unfolding slotSound
 returns c = c .live-sound .ensures ∙ rw (eq-eqb _ _ (c .before .if1 .taken))
 
-empty-sound-requires : tie.Need-empty-sound-requires
-empty-sound-requires c κs = search needs
-
 returns-2 : tie.Need-returns-2
 unfolding slotSound
 returns-2 c = c .empty-sound .ensures ∙ rw (ne-eqb _ _ (c .before .if1 .left))
 
 pub slot-sound-spec : {M : Type 1} → statement M
-slot-sound-spec = tie.close (tie.spec live-sound-requires returns empty-sound-requires returns-2)
+slot-sound-spec = tie.close (tie.spec live-sound-requires returns (λ c κs. search needs) returns-2)

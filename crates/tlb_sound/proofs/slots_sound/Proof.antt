@@ -24,9 +24,6 @@ Inv-loop slots n i₀ i = (i ≤ n) × (allOf slotSound (slotsOf slots) ≡ allO
 abbrev μ-loop : tie.MeasureT-loop
 μ-loop slots n i₀ i = n - i
 
-fields-fit-requires : tie.Need-fields-fit-requires Inv-loop μ-loop
-fields-fit-requires c κs = search needs
-
 returns : tie.Need-returns Inv-loop μ-loop
 returns c =
     let s = c .before .before .before in
@@ -38,9 +35,6 @@ returns c =
 fitting : (c : tie.Else1 Inv-loop μ-loop) → fieldsFit (digestOf (slotsOf (c .before .before .before .args .slots .now))) ≡ true
 fitting c = ap fieldsFit (sym (c .before .before .before .pre)) ∙ sym (c .before .fields-fit .ensures) ∙ not-false _ (c .if1 .left)
 
-all-plain-requires : tie.Need-all-plain-requires Inv-loop μ-loop
-all-plain-requires c κs = search needs
-
 returns-2 : tie.Need-returns-2 Inv-loop μ-loop
 returns-2 c =
     let fit = c .before .before in
@@ -49,9 +43,6 @@ returns-2 c =
 
 loop-holds : tie.Need-loop-holds Inv-loop μ-loop
 loop-holds c = (search needs, refl)
-
-slot-at-requires : tie.Need-slot-at-requires Inv-loop μ-loop
-slot-at-requires c κs = omega arith
 
 slot-sound-requires : tie.Need-slot-sound-requires Inv-loop μ-loop
 slot-sound-requires c κs =
@@ -68,12 +59,6 @@ returns-3 c =
     let l = at .before .before .before .before .before .before .args .slots .now in
     let h = ap slotSound (sym (c .before .before .slot-at .ensures)) ∙ sym (r .ensures) ∙ not-true _ (c .if3 .taken) in
     sym (at .loop .inv .1 ∙ all-fail noSlot (slotsOf l) (at .loop .i) slotSound (omega (arith, slots-length l)) h)
-
-add-i : tie.Need-add-i Inv-loop μ-loop
-add-i c = omega arith
-
-loop-less : tie.Need-loop-less Inv-loop μ-loop
-loop-less c = omega arith
 
 loop-again : tie.Need-loop-again Inv-loop μ-loop
 loop-again c =
@@ -95,15 +80,15 @@ slots-sound-spec =
     (tie.spec
     Inv-loop
     μ-loop
-    fields-fit-requires
+    (λ c κs. search needs)
     returns
-    all-plain-requires
+    (λ c κs. search needs)
     returns-2
     loop-holds
-    slot-at-requires
+    (λ c κs. omega arith)
     slot-sound-requires
     returns-3
-    add-i
-    loop-less
+    (λ c. omega arith)
+    (λ c. omega arith)
     loop-again
     returns-4)

@@ -11,9 +11,6 @@ use Rattle.machine.specs.Slots.{isLive, sizeCode, keyAddress, agrees, holds, an
 use Rattle.tlb_update.proofs.answers.Statement.{statement}
 use Rattle.tlb_update.proofs.answers.Tie as tie
 
-key-owner-requires : tie.Need-key-owner-requires
-key-owner-requires c κs = search needs
-
 -- whose key it is
 owned : (c : tie.After-key-owner) {b : Bool} → eqb (c .before .args .x .owner) (c .key-owner .result) ≡ b → agrees (c .before .args .key) (c .before .args .x) ≡ b
 owned c e = ap (λ (n : ℕ). eqb (c .before .args .x .owner) n) (sym (c .key-owner .ensures)) ∙ e
@@ -29,12 +26,6 @@ returns : tie.Need-returns
 unfolding answersTo
 returns c = sym (rw (owned (c .before .before) (ne-eqb _ _ (c .if1 .taken))) (and-no (isLive (c .before .before .before .args .x))))
 
-key-address-requires : tie.Need-key-address-requires
-key-address-requires c κs = search needs
-
-page-start-requires : tie.Need-page-start-requires
-page-start-requires c κs = search needs
-
 returns-2 : tie.Need-returns-2
 unfolding answersTo
 returns-2 c =
@@ -42,9 +33,6 @@ returns-2 c =
     let at = page .before .before .before in
     let owner = at .before .before in
     sym (rw (owned owner (eq-eqb _ _ (at .if1 .left)), held page (ne-eqb _ _ (c .if2 .taken))) (and-no (isLive (owner .before .args .x))))
-
-is-live-requires : tie.Need-is-live-requires
-is-live-requires c κs = search needs
 
 returns-3 : tie.Need-returns-3
 unfolding answersTo
@@ -58,10 +46,10 @@ pub answers-spec : {M : Type 1} → statement M
 answers-spec =
     tie.close
     (tie.spec
-    key-owner-requires
+    (λ c κs. search needs)
     returns
-    key-address-requires
-    page-start-requires
+    (λ c κs. search needs)
+    (λ c κs. search needs)
     returns-2
-    is-live-requires
+    (λ c κs. search needs)
     returns-3)

@@ -5,12 +5,6 @@ use borrow.Author.Needs.{needs}
 use Rattle.tlb_update.proofs.choose.Statement.{statement}
 use Rattle.tlb_update.proofs.choose.Tie as tie
 
-lowest-requires : tie.Need-lowest-requires
-lowest-requires c κs = search needs
-
-enum-known-slot : tie.Need-enum-known-slot
-enum-known-slot c = search needs
-
 returns : tie.Need-returns
 unfolding choice
 returns c = rw (sym (c .before .before .before .lowest .ensures) ∙ c .before .slot .given .1)
@@ -18,29 +12,11 @@ returns c = rw (sym (c .before .before .before .lowest .ensures) ∙ c .before .
 enum-told : tie.Need-enum-told
 enum-told c = search needs
 
-lowest-requires-2 : tie.Need-lowest-requires-2
-lowest-requires-2 c κs = search needs
-
-enum-known-slot-2 : tie.Need-enum-known-slot-2
-enum-known-slot-2 c = search needs
-
 returns-2 : tie.Need-returns-2
 unfolding choice
 returns-2 c =
     let at2 = c .before .before .before in
     rw (sym (at2 .before .before .before .lowest .ensures) ∙ at2 .before .enum-told .given .1, sym (at2 .lowest2 .ensures) ∙ c .before .slot2 .given .1)
-
-enum-told-2 : tie.Need-enum-told-2
-enum-told-2 c = search needs
-
-lowest-requires-3 : tie.Need-lowest-requires-3
-lowest-requires-3 c κs = search needs
-
-enum-known-slot-3 : tie.Need-enum-known-slot-3
-enum-known-slot-3 c = search needs
-
-enum-told-3 : tie.Need-enum-told-3
-enum-told-3 c = search needs
 
 returns-3 : tie.Need-returns-3
 unfolding choice
@@ -68,16 +44,16 @@ pub choose-spec : {M : Type 1} → statement M
 choose-spec =
     tie.close
     (tie.spec
-    lowest-requires
-    enum-known-slot
+    (λ c κs. search needs)
+    (λ c. search needs)
     returns
     enum-told
-    lowest-requires-2
-    enum-known-slot-2
+    (λ c κs. search needs)
+    (λ c. search needs)
     returns-2
-    enum-told-2
-    lowest-requires-3
-    enum-known-slot-3
-    enum-told-3
+    (λ c. search needs)
+    (λ c κs. search needs)
+    (λ c. search needs)
+    (λ c. search needs)
     returns-3
     returns-4)

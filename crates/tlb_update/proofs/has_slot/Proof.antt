@@ -10,9 +10,6 @@ use borrow.Author.Needs.{needs}
 use Rattle.tlb_update.proofs.has_slot.Statement.{statement}
 use Rattle.tlb_update.proofs.has_slot.Tie as tie
 
-lowest-requires : tie.Need-lowest-requires
-lowest-requires c κs = search needs
-
 enum-told : tie.Need-enum-told
 enum-told c = search needs
 
@@ -23,27 +20,12 @@ returns c =
     let s = slotsOf (at .before .before .args .slots .now) in
     rw (found-any noSlot candidate s _ (sym (at .lowest .ensures) ∙ c .enum-told .given .1)) (sym (or-comm (anyOf isEmpty s) true))
 
-enum-told-2 : tie.Need-enum-told-2
-enum-told-2 c = search needs
-
-lowest-requires-2 : tie.Need-lowest-requires-2
-lowest-requires-2 c κs = search needs
-
-enum-told-3 : tie.Need-enum-told-3
-enum-told-3 c = search needs
-
 returns-2 : tie.Need-returns-2
 unfolding hasSlot wants
 returns-2 c =
     let at = c .before .before in
     let s = slotsOf (at .before .before .before .before .before .args .slots .now) in
     rw (found-any noSlot isEmpty s _ (sym (at .lowest2 .ensures) ∙ c .enum-told3 .given .1))
-
-enum-told-4 : tie.Need-enum-told-4
-enum-told-4 c = search needs
-
-overlaps-none-requires : tie.Need-overlaps-none-requires
-overlaps-none-requires c κs = search needs
 
 returns-3 : tie.Need-returns-3
 unfolding hasSlot wants
@@ -62,13 +44,13 @@ pub has-slot-spec : {M : Type 1} → statement M
 has-slot-spec =
     tie.close
     (tie.spec
-    lowest-requires
+    (λ c κs. search needs)
     enum-told
     returns
-    enum-told-2
-    lowest-requires-2
-    enum-told-3
+    (λ c. search needs)
+    (λ c κs. search needs)
+    (λ c. search needs)
     returns-2
-    enum-told-4
-    overlaps-none-requires
+    (λ c. search needs)
+    (λ c κs. search needs)
     returns-3)

@@ -7,18 +7,6 @@ use borrow.Author.Needs.{needs}
 use Rattle.tlb_update.proofs.insert.Statement.{statement}
 use Rattle.tlb_update.proofs.insert.Tie as tie
 
-make-way-requires : tie.Need-make-way-requires
-make-way-requires c κs = search needs
-
-choose-requires : tie.Need-choose-requires
-choose-requires c κs = search needs
-
-place-requires : tie.Need-place-requires
-place-requires c κs = search needs
-
-same-length : tie.Need-same-length
-same-length c = search needs
-
 returns : tie.Need-returns
 unfolding inserted placed
 returns c =
@@ -30,4 +18,4 @@ returns c =
 
 pub insert-spec : {M : Type 1} → statement M
 insert-spec =
-    tie.close (tie.spec make-way-requires choose-requires place-requires same-length returns)
+    tie.close (tie.spec (λ c κs. search needs) (λ c κs. search needs) (λ c κs. search needs) (λ c. search needs) returns)

@@ -22,18 +22,6 @@ abbrev μ-loop : tie.MeasureT-loop
 loop-holds : tie.Need-loop-holds Inv-loop μ-loop
 loop-holds c = (omega arith, refl)
 
-slot-at-requires : tie.Need-slot-at-requires Inv-loop μ-loop
-slot-at-requires c κs = omega arith
-
-wanted-slot-requires : tie.Need-wanted-slot-requires Inv-loop μ-loop
-wanted-slot-requires c κs = search needs
-
-add-i : tie.Need-add-i Inv-loop μ-loop
-add-i c = omega arith
-
-loop-less : tie.Need-loop-less Inv-loop μ-loop
-loop-less c = omega arith
-
 -- what is asked of the slot's words is asked of the slot
 asked : (c : tie.After-wanted-slot Inv-loop μ-loop) →
     let at = c .before .before .before in
@@ -67,10 +55,10 @@ lowest-spec =
     Inv-loop
     μ-loop
     loop-holds
-    slot-at-requires
-    wanted-slot-requires
-    add-i
-    loop-less
+    (λ c κs. omega arith)
+    (λ c κs. search needs)
+    (λ c. omega arith)
+    (λ c. omega arith)
     loop-again
     returns
     returns-2)

@@ -10,21 +10,9 @@ use borrow.Author.Needs.{needs}
 use Rattle.tlb_update.proofs.make_way.Statement.{statement}
 use Rattle.tlb_update.proofs.make_way.Tie as tie
 
-overlaps-none-requires : tie.Need-overlaps-none-requires
-overlaps-none-requires c κs = search needs
-
-remove-requires : tie.Need-remove-requires
-remove-requires c κs = search needs
-
-same-length : tie.Need-same-length
-same-length c = search needs
-
 returns : tie.Need-returns
 unfolding removes
 returns c = c .before .before .remove .ensures .0
-
-same-length-2 : tie.Need-same-length-2
-same-length-2 c = search needs
 
 returns-2 : tie.Need-returns-2
 returns-2 c =
@@ -36,4 +24,4 @@ returns-2 c =
 pub make-way-spec : {M : Type 1} → statement M
 make-way-spec =
     tie.close
-    (tie.spec overlaps-none-requires remove-requires same-length returns same-length-2 returns-2)
+    (tie.spec (λ c κs. search needs) (λ c κs. search needs) (λ c. search needs) returns (λ c. search needs) returns-2)

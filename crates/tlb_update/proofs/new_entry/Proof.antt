@@ -8,15 +8,6 @@ use borrow.Author.Needs.{needs}
 use Rattle.tlb_update.proofs.new_entry.Statement.{statement}
 use Rattle.tlb_update.proofs.new_entry.Tie as tie
 
-key-owner-requires : tie.Need-key-owner-requires
-key-owner-requires c κs = search needs
-
-key-address-requires : tie.Need-key-address-requires
-key-address-requires c κs = search needs
-
-page-start-requires : tie.Need-page-start-requires
-page-start-requires c κs = search needs
-
 add-t11 : tie.Need-add-t11
 add-t11 c = ⊎-elim (λ w. omega (arith, w .1)) (λ w. omega (arith, w .1)) (c .before .before .before .before .if1 .came)
 
@@ -31,4 +22,4 @@ returns c =
 pub new-entry-spec : {M : Type 1} → statement M
 new-entry-spec =
     tie.close
-    (tie.spec key-owner-requires key-address-requires page-start-requires add-t11 returns)
+    (tie.spec (λ c κs. search needs) (λ c κs. search needs) (λ c κs. search needs) add-t11 returns)

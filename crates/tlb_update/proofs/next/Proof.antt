@@ -16,17 +16,11 @@ abbrev μ-loop : tie.MeasureT-loop
 loop-holds : tie.Need-loop-holds Inv-loop μ-loop
 loop-holds c = (omega arith, c .before .pre .0, λ j a b. absurd (omega (arith, a, b)))
 
-add-loop : tie.Need-add-loop Inv-loop μ-loop
-add-loop c = omega arith
-
 passes-requires : tie.Need-passes-requires Inv-loop μ-loop
 passes-requires c κs = (omega arith, c .before .before .before .pre .1)
 
 returns : tie.Need-returns Inv-loop μ-loop
 returns c = c .before .before .before .loop .inv
-
-add-passes : tie.Need-add-passes Inv-loop μ-loop
-add-passes c = omega arith
 
 passes-requires-2 : tie.Need-passes-requires-2 Inv-loop μ-loop
 passes-requires-2 c κs = (omega arith, c .before .before .before .before .before .pre .1)
@@ -34,29 +28,17 @@ passes-requires-2 c κs = (omega arith, c .before .before .before .before .befor
 returns-2 : tie.Need-returns-2 Inv-loop μ-loop
 returns-2 c = c .before .before .before .before .before .loop .inv
 
-add-passes-2 : tie.Need-add-passes-2 Inv-loop μ-loop
-add-passes-2 c = omega arith
-
 passes-requires-3 : tie.Need-passes-requires-3 Inv-loop μ-loop
 passes-requires-3 c κs = (omega arith, c .before .before .before .before .before .before .before .pre .1)
 
 returns-3 : tie.Need-returns-3 Inv-loop μ-loop
 returns-3 c = c .before .before .before .before .before .before .before .loop .inv
 
-add-passes-3 : tie.Need-add-passes-3 Inv-loop μ-loop
-add-passes-3 c = omega arith
-
 passes-requires-4 : tie.Need-passes-requires-4 Inv-loop μ-loop
 passes-requires-4 c κs = (omega arith, c .before .before .before .before .before .before .before .before .before .pre .1)
 
 returns-4 : tie.Need-returns-4 Inv-loop μ-loop
 returns-4 c = c .before .before .before .before .before .before .before .before .before .loop .inv
-
-add-i : tie.Need-add-i Inv-loop μ-loop
-add-i c = omega arith
-
-loop-less : tie.Need-loop-less Inv-loop μ-loop
-loop-less c = omega arith
 
 loop-again : tie.Need-loop-again Inv-loop μ-loop
 loop-again c =
@@ -82,19 +64,19 @@ next-spec =
     Inv-loop
     μ-loop
     loop-holds
-    add-loop
+    (λ c. omega arith)
     passes-requires
     returns
-    add-passes
+    (λ c. omega arith)
     passes-requires-2
     returns-2
-    add-passes-2
+    (λ c. omega arith)
     passes-requires-3
     returns-3
-    add-passes-3
+    (λ c. omega arith)
     passes-requires-4
     returns-4
-    add-i
-    loop-less
+    (λ c. omega arith)
+    (λ c. omega arith)
     loop-again
     returns-5)

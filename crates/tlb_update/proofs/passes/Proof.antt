@@ -6,45 +6,6 @@ use Rattle.tlb_update.specs.Sieves.{passes, spansFor}
 use Rattle.tlb_update.proofs.passes.Statement.{statement}
 use Rattle.tlb_update.proofs.passes.Tie as tie
 
-mul-k : tie.Need-mul-k
-mul-k c = search needs
-
-enum-known-sieve : tie.Need-enum-known-sieve
-enum-known-sieve c = search needs
-
-add-code : tie.Need-add-code
-add-code c = search needs
-
-mul-code : tie.Need-mul-code
-mul-code c = search needs
-
-shared-slice-read-code : tie.Need-shared-slice-read-code
-shared-slice-read-code c = search needs
-
-add-result : tie.Need-add-result
-add-result c = search needs
-
-mul-result : tie.Need-mul-result
-mul-result c = search needs
-
-shared-slice-read-result : tie.Need-shared-slice-read-result
-shared-slice-read-result c = search needs
-
-mul-result-2 : tie.Need-mul-result-2
-mul-result-2 c = search needs
-
-element-copy-out-result : tie.Need-element-copy-out-result
-element-copy-out-result c = search needs
-
-enum-known-sieve-2 : tie.Need-enum-known-sieve-2
-enum-known-sieve-2 c = search needs
-
-mul-result-3 : tie.Need-mul-result-3
-mul-result-3 c = search needs
-
-shared-slice-read-result-2 : tie.Need-shared-slice-read-result-2
-shared-slice-read-result-2 c = search needs
-
 returns : tie.Need-returns
 unfolding passes spansFor
 returns c =
@@ -63,18 +24,18 @@ pub passes-spec : {M : Type 1} → statement M
 passes-spec =
     tie.close
     (tie.spec
-    mul-k
-    enum-known-sieve
-    add-code
-    mul-code
-    shared-slice-read-code
-    add-result
-    mul-result
-    shared-slice-read-result
-    mul-result-2
-    element-copy-out-result
-    enum-known-sieve-2
-    mul-result-3
-    shared-slice-read-result-2
+    (λ c. search needs)
+    (λ c. search needs)
+    (λ c. search needs)
+    (λ c. search needs)
+    (λ c. search needs)
+    (λ c. search needs)
+    (λ c. search needs)
+    (λ c. search needs)
+    (λ c. search needs)
+    (λ c. search needs)
+    (λ c. search needs)
+    (λ c. search needs)
+    (λ c. search needs)
     returns
     returns-2)

@@ -21,24 +21,15 @@ within l i h = omega (arith, slots-length l)
 says : (c : tie.Start) → Chosen candidate (slotsOf (c .args .slots .now)) (c .args .chosen)
 says c = rw (c .pre .1) (choice-says candidate (slotsOf (c .args .slots .now)))
 
-enum-known-chosen : tie.Need-enum-known-chosen
-enum-known-chosen c = search needs
-
 store-slot-requires : tie.Need-store-slot-requires
 store-slot-requires c κs =
     let at = c .before .before in
     within _ _ (rw (at .chosen .given .1) at (says (at .before .before .before)) .0)
 
-enum-known-chosen-2 : tie.Need-enum-known-chosen-2
-enum-known-chosen-2 c = search needs
-
 displace-requires : tie.Need-displace-requires
 displace-requires c κs =
     let at = c .before .before in
     within _ _ (rw (at .chosen2 .given .1) at (says (at .before .before .before)) .1)
-
-enum-known-chosen-3 : tie.Need-enum-known-chosen-3
-enum-known-chosen-3 c = search needs
 
 -- the third choice's slot
 cleared : (c : tie.After-chosen3) → c .chosen3 .given .0 .0 * 4 + 4 ≤ length (c .before .before .before .args .slots .now)
@@ -47,17 +38,11 @@ cleared c = within _ _ (rw (c .chosen3 .given .1) at (says (c .before .before .b
 slot-at-requires : tie.Need-slot-at-requires
 slot-at-requires c κs = cleared (c .before .before)
 
-clear-used-requires : tie.Need-clear-used-requires
-clear-used-requires c κs = search needs
-
 store-slot-requires-2 : tie.Need-store-slot-requires-2
 store-slot-requires-2 c κs = omega (arith, cleared (c .before .before .before .before .before .before .before .before), c .before .before .before .clear-used .kept .0)
 
 enum-told : tie.Need-enum-told
 enum-told c = search needs
-
-same-length : tie.Need-same-length
-same-length c = search needs
 
 returns : tie.Need-returns
 returns c =
@@ -65,18 +50,12 @@ returns c =
     let s = at .before .before .before in
     rw (at .chosen .given .1) (c .before .before .store-slot .ensures ∙ store-slots (s .args .slots .now) _ (s .args .new) (s .pre .0), refl)
 
-same-length-2 : tie.Need-same-length-2
-same-length-2 c = search needs
-
 returns-2 : tie.Need-returns-2
 returns-2 c =
     let at = c .before .before .before .before .before in
     let s = at .before .before .before in
     let d = c .before .before .displace .ensures in
     rw (at .chosen2 .given .1) (d .0 ∙ store-slots (s .args .slots .now) _ (s .args .new) (s .pre .0), ap Displaced (d .1))
-
-same-length-3 : tie.Need-same-length-3
-same-length-3 c = search needs
 
 returns-3 : tie.Need-returns-3
 returns-3 c =
@@ -101,19 +80,19 @@ pub place-spec : {M : Type 1} → statement M
 place-spec =
     tie.close
     (tie.spec
-    enum-known-chosen
+    (λ c. search needs)
     store-slot-requires
-    enum-known-chosen-2
+    (λ c. search needs)
     displace-requires
-    enum-known-chosen-3
+    (λ c. search needs)
     slot-at-requires
-    clear-used-requires
+    (λ c κs. search needs)
     store-slot-requires-2
     enum-told
-    same-length
+    (λ c. search needs)
     returns
-    same-length-2
+    (λ c. search needs)
     returns-2
-    same-length-3
+    (λ c. search needs)
     returns-3
     returns-4)

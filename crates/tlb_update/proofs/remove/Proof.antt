@@ -20,12 +20,6 @@ Inv-loop slots₀ which sieve span n taken₀ i₀ slots taken i = Walked (remov
 abbrev μ-loop : tie.MeasureT-loop
 μ-loop slots₀ which sieve span n taken₀ i₀ slots taken i = n - i
 
-sieve-of-requires : tie.Need-sieve-of-requires Inv-loop μ-loop
-sieve-of-requires c κs = search needs
-
-spans-of-requires : tie.Need-spans-of-requires Inv-loop μ-loop
-spans-of-requires c κs = search needs
-
 next-requires : tie.Need-next-requires Inv-loop μ-loop
 next-requires c κs = (omega arith, c .before .before .spans-of .ensures)
 
@@ -72,9 +66,6 @@ add-taken c =
     let l = a .slots .now in
     omega (arith, turn called .2, count-rest (removes (a .which)) (slotsOf l), slots-length l)
 
-add-next : tie.Need-add-next Inv-loop μ-loop
-add-next c = omega arith
-
 next-requires-2 : tie.Need-next-requires-2 Inv-loop μ-loop
 next-requires-2 c κs = (omega (arith, same-turn (c .before .before .before .before)), c .before .before .before .before .before .before .before .before .before .before .before .spans-of .ensures)
 
@@ -114,13 +105,13 @@ remove-spec =
     (tie.spec
     Inv-loop
     μ-loop
-    sieve-of-requires
-    spans-of-requires
+    (λ c κs. search needs)
+    (λ c κs. search needs)
     next-requires
     loop-holds
     remove-at-requires
     add-taken
-    add-next
+    (λ c. omega arith)
     next-requires-2
     loop-less
     loop-again

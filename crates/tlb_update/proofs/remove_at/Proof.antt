@@ -7,12 +7,6 @@ use borrow.Author.Needs.{needs}
 use Rattle.tlb_update.proofs.remove_at.Statement.{statement}
 use Rattle.tlb_update.proofs.remove_at.Tie as tie
 
-slot-at-requires : tie.Need-slot-at-requires
-slot-at-requires c κs = search needs
-
-takes-requires : tie.Need-takes-requires
-takes-requires c κs = search needs
-
 -- what is asked of the slot's words is asked of the slot
 taken : (c : tie.After-takes) →
     let a = c .before .before .before .before .args in
@@ -21,19 +15,10 @@ taken c =
     let a = c .before .before .before .before .args in
     ap (removes (a .which)) (sym (c .before .slot-at .ensures)) ∙ sym (c .takes .ensures)
 
-store-slot-requires : tie.Need-store-slot-requires
-store-slot-requires c κs = search needs
-
-same-length : tie.Need-same-length
-same-length c = search needs
-
 returns : tie.Need-returns
 returns c =
     let at = c .before .before .before .before in
     rw (taken (at .before) ∙ at .if1 .taken) (c .before .before .store-slot .ensures, refl)
-
-same-length-2 : tie.Need-same-length-2
-same-length-2 c = search needs
 
 returns-2 : tie.Need-returns-2
 returns-2 c =
@@ -44,10 +29,10 @@ pub remove-at-spec : {M : Type 1} → statement M
 remove-at-spec =
     tie.close
     (tie.spec
-    slot-at-requires
-    takes-requires
-    store-slot-requires
-    same-length
+    (λ c κs. search needs)
+    (λ c κs. search needs)
+    (λ c κs. search needs)
+    (λ c. search needs)
     returns
-    same-length-2
+    (λ c. search needs)
     returns-2)

@@ -4,29 +4,8 @@ use borrow.Author.Needs.{needs}
 use Rattle.tlb_update.proofs.sieve_of.Statement.{statement}
 use Rattle.tlb_update.proofs.sieve_of.Tie as tie
 
-enum-known-which : tie.Need-enum-known-which
-enum-known-which c = search needs
-
-key-address-requires : tie.Need-key-address-requires
-key-address-requires c κs = search needs
-
-enum-known-which-2 : tie.Need-enum-known-which-2
-enum-known-which-2 c = search needs
-
-owner-word-requires : tie.Need-owner-word-requires
-owner-word-requires c κs = search needs
-
-enum-known-which-3 : tie.Need-enum-known-which-3
-enum-known-which-3 c = search needs
-
 enum-told : tie.Need-enum-told
 enum-told c = search needs
-
-enum-known-which-4 : tie.Need-enum-known-which-4
-enum-known-which-4 c = search needs
-
-page-size-requires : tie.Need-page-size-requires
-page-size-requires c κs = search needs
 
 returns : tie.Need-returns
 returns c = rw (c .key-address .ensures, c .before .before .which .given .1) (page-sifts _)
@@ -47,14 +26,14 @@ pub sieve-of-spec : {M : Type 1} → statement M
 sieve-of-spec =
     tie.close
     (tie.spec
-    enum-known-which
-    key-address-requires
-    enum-known-which-2
-    owner-word-requires
-    enum-known-which-3
+    (λ c. search needs)
+    (λ c κs. search needs)
+    (λ c. search needs)
+    (λ c κs. search needs)
+    (λ c. search needs)
     enum-told
-    enum-known-which-4
-    page-size-requires
+    (λ c. search needs)
+    (λ c κs. search needs)
     returns
     returns-2
     returns-3

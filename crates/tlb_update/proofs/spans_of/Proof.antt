@@ -4,12 +4,6 @@ use Rattle.tlb_update.specs.Sieves.{spansFor}
 use Rattle.tlb_update.proofs.spans_of.Statement.{statement}
 use Rattle.tlb_update.proofs.spans_of.Tie as tie
 
-enum-known-sieve : tie.Need-enum-known-sieve
-enum-known-sieve c = search needs
-
-spans-requires : tie.Need-spans-requires
-spans-requires c κs = search needs
-
 enum-told : tie.Need-enum-told
 enum-told c = search needs
 
@@ -22,4 +16,4 @@ unfolding spansFor
 returns-2 c = rw (c .enum-told .given .1)
 
 pub spans-of-spec : {M : Type 1} → statement M
-spans-of-spec = tie.close (tie.spec enum-known-sieve spans-requires enum-told returns returns-2)
+spans-of-spec = tie.close (tie.spec (λ c. search needs) (λ c κs. search needs) enum-told returns returns-2)

@@ -5,38 +5,8 @@ use borrow.Author.Needs.{needs}
 use Rattle.tlb_update.proofs.takes.Statement.{statement}
 use Rattle.tlb_update.proofs.takes.Tie as tie
 
-enum-known-which : tie.Need-enum-known-which
-enum-known-which c = search needs
-
-answers-requires : tie.Need-answers-requires
-answers-requires c κs = search needs
-
-enum-known-which-2 : tie.Need-enum-known-which-2
-enum-known-which-2 c = search needs
-
-owner-word-requires : tie.Need-owner-word-requires
-owner-word-requires c κs = search needs
-
-owned-by-requires : tie.Need-owned-by-requires
-owned-by-requires c κs = search needs
-
-enum-known-which-3 : tie.Need-enum-known-which-3
-enum-known-which-3 c = search needs
-
-unlocked-of-requires : tie.Need-unlocked-of-requires
-unlocked-of-requires c κs = search needs
-
 enum-told : tie.Need-enum-told
 enum-told c = search needs
-
-is-live-requires : tie.Need-is-live-requires
-is-live-requires c κs = search needs
-
-enum-known-which-4 : tie.Need-enum-known-which-4
-enum-known-which-4 c = search needs
-
-overlap-requires : tie.Need-overlap-requires
-overlap-requires c κs = search needs
 
 returns : tie.Need-returns
 unfolding removes
@@ -62,17 +32,17 @@ pub takes-spec : {M : Type 1} → statement M
 takes-spec =
     tie.close
     (tie.spec
-    enum-known-which
-    answers-requires
-    enum-known-which-2
-    owner-word-requires
-    owned-by-requires
-    enum-known-which-3
-    unlocked-of-requires
+    (λ c. search needs)
+    (λ c κs. search needs)
+    (λ c. search needs)
+    (λ c κs. search needs)
+    (λ c κs. search needs)
+    (λ c. search needs)
+    (λ c κs. search needs)
     enum-told
-    is-live-requires
-    enum-known-which-4
-    overlap-requires
+    (λ c κs. search needs)
+    (λ c. search needs)
+    (λ c κs. search needs)
     returns
     returns-2
     returns-3

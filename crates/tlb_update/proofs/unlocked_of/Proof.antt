@@ -5,9 +5,6 @@ use borrow.Author.Needs.{needs}
 use Rattle.tlb_update.proofs.unlocked_of.Statement.{statement}
 use Rattle.tlb_update.proofs.unlocked_of.Tie as tie
 
-is-live-requires : tie.Need-is-live-requires
-is-live-requires c κs = search needs
-
 returns : tie.Need-returns
 returns c = rw (sym (c .before .is-live .ensures) ∙ not-true _ (c .if1 .taken))
 
@@ -22,4 +19,4 @@ returns-3 c =
     rw (sym (at1 .before .is-live .ensures) ∙ not-false _ (at1 .if1 .left), eq-eqb _ _ (c .before .if2 .left))
 
 pub unlocked-of-spec : {M : Type 1} → statement M
-unlocked-of-spec = tie.close (tie.spec is-live-requires returns returns-2 returns-3)
+unlocked-of-spec = tie.close (tie.spec (λ c κs. search needs) returns returns-2 returns-3)

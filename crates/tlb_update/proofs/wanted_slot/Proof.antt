@@ -10,24 +10,9 @@ use Rattle.tlb_update.proofs.wanted_slot.Tie as tie
 enum-told : tie.Need-enum-told
 enum-told c = search needs
 
-is-live-requires : tie.Need-is-live-requires
-is-live-requires c κs = search needs
-
-enum-told-2 : tie.Need-enum-told-2
-enum-told-2 c = search needs
-
-displaceable-requires : tie.Need-displaceable-requires
-displaceable-requires c κs = search needs
-
 returns : tie.Need-returns
 unfolding wants
 returns c = rw (c .before .before .enum-told2 .given .1, sym (c .before .displaceable .ensures) ∙ not-true _ (c .if1 .taken))
-
-enum-told-3 : tie.Need-enum-told-3
-enum-told-3 c = search needs
-
-displaceable-requires-2 : tie.Need-displaceable-requires-2
-displaceable-requires-2 c κs = search needs
 
 returns-2 : tie.Need-returns-2
 unfolding wants
@@ -46,12 +31,12 @@ wanted-slot-spec =
     tie.close
     (tie.spec
     enum-told
-    is-live-requires
-    enum-told-2
-    displaceable-requires
+    (λ c κs. search needs)
+    (λ c. search needs)
+    (λ c κs. search needs)
     returns
-    enum-told-3
-    displaceable-requires-2
+    (λ c. search needs)
+    (λ c κs. search needs)
     returns-2
     returns-3
     returns-4)

@@ -7,9 +7,6 @@ use Rattle.machine.specs.Words.{bits, frame}
 use Rattle.tte.proofs.page_frame.Statement.{statement}
 use Rattle.tte.proofs.page_frame.Tie as tie
 
-page-start-requires : tie.Need-page-start-requires
-page-start-requires c κs = search needs
-
 returns : tie.Need-returns
 unfolding frame
 returns c =
@@ -18,4 +15,4 @@ returns c =
     rw (c .page-start .ensures, kept)
 
 pub page-frame-spec : {M : Type 1} → statement M
-page-frame-spec = tie.close (tie.spec page-start-requires returns)
+page-frame-spec = tie.close (tie.spec (λ c κs. search needs) returns)

@@ -6,12 +6,6 @@ use Rattle.machine.proofs.Words.{physical-block}
 use Rattle.tte.proofs.physical_address.Statement.{statement}
 use Rattle.tte.proofs.physical_address.Tie as tie
 
-page-frame-requires : tie.Need-page-frame-requires
-page-frame-requires c κs = search needs
-
-page-offset-requires : tie.Need-page-offset-requires
-page-offset-requires c κs = search needs
-
 add-t6 : tie.Need-add-t6
 unfolding physicalAt
 add-t6 c =
@@ -24,4 +18,4 @@ returns c = rw (c .before .before .page-frame .ensures, c .before .page-offset .
 
 pub physical-address-spec : {M : Type 1} → statement M
 physical-address-spec =
-    tie.close (tie.spec page-frame-requires page-offset-requires add-t6 returns)
+    tie.close (tie.spec (λ c κs. search needs) (λ c κs. search needs) add-t6 returns)

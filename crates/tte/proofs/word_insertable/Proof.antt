@@ -6,9 +6,6 @@ use Rattle.machine.proofs.Words.{insertable-sound}
 use Rattle.tte.proofs.word_insertable.Statement.{statement}
 use Rattle.tte.proofs.word_insertable.Tie as tie
 
-word-sound-requires : tie.Need-word-sound-requires
-word-sound-requires c κs = search needs
-
 returns : tie.Need-returns
 unfolding wordInsertable
 returns c =
@@ -16,4 +13,4 @@ returns c =
     (same, λ h. insertable-sound _ (sym same ∙ h))
 
 pub word-insertable-spec : {M : Type 1} → statement M
-word-insertable-spec = tie.close (tie.spec word-sound-requires returns)
+word-insertable-spec = tie.close (tie.spec (λ c κs. search needs) returns)

@@ -10,9 +10,6 @@ returns : tie.Need-returns
 unfolding wordSound
 returns c = rw (ne-eqb _ _ (c .if1 .taken))
 
-code-listed-requires : tie.Need-code-listed-requires
-code-listed-requires c κs = search needs
-
 returns-2 : tie.Need-returns-2
 unfolding wordSound
 returns-2 c =
@@ -26,4 +23,4 @@ returns-3 c =
     rw (eq-eqb _ _ (c .before .before .if1 .left), sym listed ∙ not-false _ (c .if2 .left))
 
 pub word-sound-spec : {M : Type 1} → statement M
-word-sound-spec = tie.close (tie.spec returns code-listed-requires returns-2 returns-3)
+word-sound-spec = tie.close (tie.spec returns (λ c κs. search needs) returns-2 returns-3)

@@ -12,18 +12,6 @@ use Rattle.wire.proofs.decode.Tie as tie
 returns : tie.Need-returns
 returns c = sym (decode-past _ _ (omega (arith, c .if1 .taken)))
 
-sub-decode-first : tie.Need-sub-decode-first
-sub-decode-first c = search needs
-
-part-decode-first-start : tie.Need-part-decode-first-start
-part-decode-first-start c = search needs
-
-part-decode-first-end : tie.Need-part-decode-first-end
-part-decode-first-end c = search needs
-
-decode-first-requires : tie.Need-decode-first-requires
-decode-first-requires c κs = search needs
-
 returns-2 : tie.Need-returns-2
 returns-2 c = c .decode-first .ensures ∙ rw (← length-drop, take-length) (decode-rest _ _)
 
@@ -32,8 +20,8 @@ decode-spec =
     tie.close
     (tie.spec
     returns
-    sub-decode-first
-    part-decode-first-start
-    part-decode-first-end
-    decode-first-requires
+    (λ c. search needs)
+    (λ c. search needs)
+    (λ c. search needs)
+    (λ c κs. search needs)
     returns-2)

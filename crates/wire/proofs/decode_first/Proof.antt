@@ -11,12 +11,6 @@ use Rattle.wire.proofs.decode_first.Tie as tie
 law : (c : tie.After-command-width) → Told (c .before .before .before .args .rest .now) (c .command-width .result)
 law c = decode-shown _ _ (c .command-width .ensures)
 
-shared-slice-read-command-width : tie.Need-shared-slice-read-command-width
-shared-slice-read-command-width c = search needs
-
-command-width-requires : tie.Need-command-width-requires
-command-width-requires c κs = search needs
-
 returns : tie.Need-returns
 returns c = sym (law (c .before) .0 ∙ rw (c .if1 .taken))
 
@@ -36,8 +30,8 @@ pub decode-first-spec : {M : Type 1} → statement M
 decode-first-spec =
     tie.close
     (tie.spec
-    shared-slice-read-command-width
-    command-width-requires
+    (λ c. search needs)
+    (λ c κs. search needs)
     returns
     returns-2
     known-command-requires

@@ -6,21 +6,6 @@ use Rattle.machine.specs.Stream.{eight}
 use Rattle.wire.proofs.eight_bytes.Statement.{statement}
 use Rattle.wire.proofs.eight_bytes.Tie as tie
 
-four-bytes-requires : tie.Need-four-bytes-requires
-four-bytes-requires c κs = search needs
-
-mul-result : tie.Need-mul-result
-mul-result c = search needs
-
-add-four-bytes : tie.Need-add-four-bytes
-add-four-bytes c = search needs
-
-four-bytes-requires-2 : tie.Need-four-bytes-requires-2
-four-bytes-requires-2 c κs = search needs
-
-add-result : tie.Need-add-result
-add-result c = search needs
-
 returns : tie.Need-returns
 unfolding eight
 returns c = omega arith
@@ -29,9 +14,9 @@ pub eight-bytes-spec : {M : Type 1} → statement M
 eight-bytes-spec =
     tie.close
     (tie.spec
-    four-bytes-requires
-    mul-result
-    add-four-bytes
-    four-bytes-requires-2
-    add-result
+    (λ c κs. search needs)
+    (λ c. search needs)
+    (λ c. search needs)
+    (λ c κs. search needs)
+    (λ c. search needs)
     returns)

@@ -4,48 +4,6 @@ use borrow.Author.Needs.{needs}
 use Rattle.wire.proofs.fields_of.Statement.{statement}
 use Rattle.wire.proofs.fields_of.Tie as tie
 
-enum-known-answer : tie.Need-enum-known-answer
-enum-known-answer c = search needs
-
-head-word-requires : tie.Need-head-word-requires
-head-word-requires c κs = search needs
-
-enum-known-answer-2 : tie.Need-enum-known-answer-2
-enum-known-answer-2 c = search needs
-
-head-word-requires-2 : tie.Need-head-word-requires-2
-head-word-requires-2 c κs = search needs
-
-enum-known-answer-3 : tie.Need-enum-known-answer-3
-enum-known-answer-3 c = search needs
-
-trap-fields-requires : tie.Need-trap-fields-requires
-trap-fields-requires c κs = search needs
-
-enum-known-answer-4 : tie.Need-enum-known-answer-4
-enum-known-answer-4 c = search needs
-
-head-word-requires-3 : tie.Need-head-word-requires-3
-head-word-requires-3 c κs = search needs
-
-enum-known-answer-5 : tie.Need-enum-known-answer-5
-enum-known-answer-5 c = search needs
-
-bit-requires : tie.Need-bit-requires
-bit-requires c κs = search needs
-
-head-word-requires-4 : tie.Need-head-word-requires-4
-head-word-requires-4 c κs = search needs
-
-enum-known-answer-6 : tie.Need-enum-known-answer-6
-enum-known-answer-6 c = search needs
-
-refusal-number-requires : tie.Need-refusal-number-requires
-refusal-number-requires c κs = search needs
-
-head-word-requires-5 : tie.Need-head-word-requires-5
-head-word-requires-5 c κs = search needs
-
 returns : tie.Need-returns
 returns c = rw (c .before .before .answer .given .1, c .head-word .ensures)
 
@@ -68,20 +26,20 @@ pub fields-of-spec : {M : Type 1} → statement M
 fields-of-spec =
     tie.close
     (tie.spec
-    enum-known-answer
-    head-word-requires
-    enum-known-answer-2
-    head-word-requires-2
-    enum-known-answer-3
-    trap-fields-requires
-    enum-known-answer-4
-    head-word-requires-3
-    enum-known-answer-5
-    bit-requires
-    head-word-requires-4
-    enum-known-answer-6
-    refusal-number-requires
-    head-word-requires-5
+    (λ c. search needs)
+    (λ c κs. search needs)
+    (λ c. search needs)
+    (λ c κs. search needs)
+    (λ c. search needs)
+    (λ c κs. search needs)
+    (λ c. search needs)
+    (λ c κs. search needs)
+    (λ c. search needs)
+    (λ c κs. search needs)
+    (λ c κs. search needs)
+    (λ c. search needs)
+    (λ c κs. search needs)
+    (λ c κs. search needs)
     returns
     returns-2
     returns-3

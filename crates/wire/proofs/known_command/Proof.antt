@@ -7,20 +7,11 @@ use Rattle.wire.proofs.Decodes.{reach}
 use Rattle.wire.proofs.known_command.Statement.{statement}
 use Rattle.wire.proofs.known_command.Tie as tie
 
-shared-slice-read-match : tie.Need-shared-slice-read-match
-shared-slice-read-match c = search needs
-
-shared-slice-read-t7 : tie.Need-shared-slice-read-t7
-shared-slice-read-t7 c = search needs
-
 shared-slice-read-t9 : tie.Need-shared-slice-read-t9
 shared-slice-read-t9 c = let a = c .before .before in omega (arith, reach (a .match .keys1) (a .before .before .before .pre .1))
 
 eight-bytes-requires : tie.Need-eight-bytes-requires
 eight-bytes-requires c κs = let a = c .before .before in omega (arith, reach (a .match .keys1) (a .before .before .before .pre .1))
-
-shared-slice-read-t12 : tie.Need-shared-slice-read-t12
-shared-slice-read-t12 c = search needs
 
 shared-slice-read-t14 : tie.Need-shared-slice-read-t14
 shared-slice-read-t14 c = let a = c .before .before in omega (arith, reach (a .match .keys2) (a .before .before .before .pre .1))
@@ -30,9 +21,6 @@ shared-slice-read-t16 c = let a = c .before .before .before in omega (arith, rea
 
 eight-bytes-requires-2 : tie.Need-eight-bytes-requires-2
 eight-bytes-requires-2 c κs = let a = c .before .before .before in omega (arith, reach (a .match .keys2) (a .before .before .before .pre .1))
-
-shared-slice-read-t19 : tie.Need-shared-slice-read-t19
-shared-slice-read-t19 c = search needs
 
 shared-slice-read-t21 : tie.Need-shared-slice-read-t21
 shared-slice-read-t21 c = let a = c .before .before in omega (arith, reach (a .match .keys3) (a .before .before .before .pre .1))
@@ -46,9 +34,6 @@ shared-slice-read-t25 c = let a = c .before .before .before .before in omega (ar
 eight-bytes-requires-3 : tie.Need-eight-bytes-requires-3
 eight-bytes-requires-3 c κs = let a = c .before .before .before .before in omega (arith, reach (a .match .keys3) (a .before .before .before .pre .1))
 
-shared-slice-read-t28 : tie.Need-shared-slice-read-t28
-shared-slice-read-t28 c = search needs
-
 shared-slice-read-t30 : tie.Need-shared-slice-read-t30
 shared-slice-read-t30 c = let a = c .before .before in omega (arith, reach (a .match .keys4) (a .before .before .before .pre .1))
 
@@ -60,9 +45,6 @@ shared-slice-read-t34 c = let a = c .before .before .before .before in omega (ar
 
 eight-bytes-requires-4 : tie.Need-eight-bytes-requires-4
 eight-bytes-requires-4 c κs = let a = c .before .before .before .before in omega (arith, reach (a .match .keys4) (a .before .before .before .pre .1))
-
-short-command-requires : tie.Need-short-command-requires
-short-command-requires c κs = search needs
 
 returns : tie.Need-returns
 returns c = rw (c .before .before .before .match .keys1, c .eight-bytes .ensures)
@@ -85,25 +67,25 @@ pub known-command-spec : {M : Type 1} → statement M
 known-command-spec =
     tie.close
     (tie.spec
-    shared-slice-read-match
-    shared-slice-read-t7
+    (λ c. search needs)
+    (λ c. search needs)
     shared-slice-read-t9
     eight-bytes-requires
-    shared-slice-read-t12
+    (λ c. search needs)
     shared-slice-read-t14
     shared-slice-read-t16
     eight-bytes-requires-2
-    shared-slice-read-t19
+    (λ c. search needs)
     shared-slice-read-t21
     shared-slice-read-t23
     shared-slice-read-t25
     eight-bytes-requires-3
-    shared-slice-read-t28
+    (λ c. search needs)
     shared-slice-read-t30
     shared-slice-read-t32
     shared-slice-read-t34
     eight-bytes-requires-4
-    short-command-requires
+    (λ c κs. search needs)
     returns
     returns-2
     returns-3

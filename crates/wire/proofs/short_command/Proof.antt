@@ -7,12 +7,6 @@ use Rattle.wire.proofs.Decodes.{reach}
 use Rattle.wire.proofs.short_command.Statement.{statement}
 use Rattle.wire.proofs.short_command.Tie as tie
 
-shared-slice-read-first : tie.Need-shared-slice-read-first
-shared-slice-read-first c = search needs
-
-shared-slice-read-match : tie.Need-shared-slice-read-match
-shared-slice-read-match c = search needs
-
 shared-slice-read-t9 : tie.Need-shared-slice-read-t9
 shared-slice-read-t9 c = let a = c .before in omega (arith, reach (a .match .keys1) (a .before .before .before .pre .1))
 
@@ -52,8 +46,8 @@ pub short-command-spec : {M : Type 1} → statement M
 short-command-spec =
     tie.close
     (tie.spec
-    shared-slice-read-first
-    shared-slice-read-match
+    (λ c. search needs)
+    (λ c. search needs)
     shared-slice-read-t9
     shared-slice-read-t11
     shared-slice-read-t13

@@ -13,17 +13,8 @@ use Rattle.wire.proofs.stop_without_room.Tie as tie
 returns : tie.Need-returns
 returns c = ap fullStopOf (sym (decode-past _ _ (omega (arith, c .if1 .taken))))
 
-shared-slice-read-command-width : tie.Need-shared-slice-read-command-width
-shared-slice-read-command-width c = search needs
-
-command-width-requires : tie.Need-command-width-requires
-command-width-requires c κs = search needs
-
 returns-2 : tie.Need-returns-2
 returns-2 c = rw (decode-told _ _ _ (c .before .command-width .ensures), c .if2 .taken)
-
-sub-if3 : tie.Need-sub-if3
-sub-if3 c = search needs
 
 returns-3 : tie.Need-returns-3
 returns-3 c =
@@ -40,9 +31,9 @@ stop-without-room-spec =
     tie.close
     (tie.spec
     returns
-    shared-slice-read-command-width
-    command-width-requires
+    (λ c. search needs)
+    (λ c κs. search needs)
     returns-2
-    sub-if3
+    (λ c. search needs)
     returns-3
     returns-4)

@@ -1,0 +1,23 @@
+-- How contracts on lent words are said.
+-- Assumes nothing.
+use Prim.Native.Nat.{ℕ}
+use mathlib.Core.Path.{_≡_}
+use mathlib.Core.Bool.{true}
+use mathlib.Core.List.{List}
+use lib.ListN.{length}
+use Rattle.machine.specs.State.{counts, stateIn, stateLength, encode, sound}
+use Rattle.machine.specs.Access.{Stepped}
+use Rattle.machine.specs.declared.Answer.{Answer}
+
+-- words of a state's length
+abbrev pub Lent : List ℕ → Type 0
+Lent words = length words ≡ stateLength
+
+-- the state that they hold is sound
+abbrev pub SoundIn : List ℕ → Type 0
+SoundIn words = sound counts (stateIn words) ≡ true
+
+-- the words left and the answer given are those of a step
+pub record Did (left : List ℕ) (given : Answer) (s : Stepped) : Type 0 where
+  pub words : left ≡ encode (s .state)
+  pub answer : given ≡ s .answer
