@@ -22,5 +22,4 @@ pub mod Reference
 pub mod Demand1
 pub mod Demand2
 pub mod Frame
-pub mod Unseen
 pub mod Format

@@ -18,5 +18,4 @@ pub mod Demand1
 pub mod Demand2
 pub mod Examples
 pub mod Frame
-pub mod Unseen
 pub mod Format

@@ -8,12 +8,10 @@ use lib.ListN.{getD, set}
 use lib.Seq.{sets}
 use Rattle.laws.specs.Tests.{tick, first}
 use Rattle.laws.specs.declared.Found.{Found}
-use Rattle.machine.specs.Pages.{pageStart, pageOffset}
+use Rattle.machine.specs.Pages.{pageStart}
 use Rattle.machine.specs.declared.Slot.{Slot}
 use Rattle.machine.specs.declared.Key.{Key}
 use Rattle.machine.specs.declared.Key.the-variants.{Virtual, Real}
-use Rattle.machine.specs.declared.PageMatch.{PageMatch}
-use Rattle.machine.specs.declared.PageMatch.the-variants.{Within, Outside}
 
 -- ---- slots and words: each determines the other
 -- four words a slot; fewer than four at the end are no slot
@@ -89,10 +87,6 @@ agrees key x = eqb (x .owner) (keyOwner key)
 -- the page holds the address: rounded down to the page's size, it is the page's start
 abbrev pub holds : Slot → ℕ → Bool
 holds x address = eqb (pageStart (sizeCode x) address) (x .page)
-
--- an address against the page
-unfoldable pub pageMatch : Slot → ℕ → PageMatch
-pageMatch x address = cond (holds x address) (Within (sizeCode x) (pageOffset (sizeCode x) address)) Outside
 
 -- a live entry of the key's owner whose page holds the key's address
 unfoldable pub answersTo : Key → Slot → Bool

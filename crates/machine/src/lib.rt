@@ -11,8 +11,35 @@ ghost use Rattle.machine.specs.Places.{slots};
 ghost use Rattle.machine.specs.Reference.{Told};
 ghost use Rattle.machine.specs.Frame.{Framed, SoundKept};
 ghost use Rattle.machine.specs.Examples.{Starred, PrintedRun};
-ghost use Rattle.machine.specs.Unseen.{Unseen};
 ghost use Rattle.machine.specs.Format.{Readable, Decodes};
+
+// Registers by number: document 01, "Registers". One that each side has stands at the number given plus the side.
+pub const PARTITION: u8 = 0;
+pub const PRIMARY_CONTEXT: u8 = 1;
+pub const SECONDARY_CONTEXT: u8 = 2;
+pub const MODE: u8 = 3;
+pub const TRANSLATION: u8 = 4;
+pub const ADDRESS_MASK: u8 = 5;
+pub const TSB_BASE: u8 = 8;
+pub const TSB_CONFIGURATION: u8 = 16;
+pub const TAG_ACCESS: u8 = 20;
+pub const FAULT_ADDRESS: u8 = 22;
+pub const FAULT_STATUS: u8 = 24;
+
+// What a mode register holds.
+pub const USER: u64 = 0;
+pub const HYPERPRIVILEGED: u64 = 2;
+
+// The words of a state: cells of a strand and of all four, the words of a slot, the slots and words of a side, all.
+pub const STRAND_CELLS: usize = 32;
+pub const REGISTER_WORDS: usize = 4 * STRAND_CELLS;
+pub const SLOT_WORDS: usize = 4;
+pub const SIDE_SLOTS: usize = 64;
+pub const SIDE_WORDS: usize = SIDE_SLOTS * SLOT_WORDS;
+pub const STATE_WORDS: usize = REGISTER_WORDS + 2 * SIDE_WORDS;
+
+// The bytes of an answer.
+pub const ANSWER_BYTES: usize = 24;
 
 // The three kinds of address. None is read for another: each crossing is a function with a name.
 pub struct VirtualAddress(pub u64);
@@ -62,12 +89,6 @@ pub struct Slot {
     pub page: u64,
     pub word: u64,
     pub flags: u64,
-}
-
-// An address against an entry's page: inside, with the page's size code and the offset, or outside.
-pub enum PageMatch {
-    Within { code: u64, offset: u64 },
-    Outside,
 }
 
 // Which entries a removal takes.
@@ -272,10 +293,9 @@ pub fn answer_width() -> usize
     ensures described { λ r. ⌜ ((n : Counts) → Described n) ⌝ }
     ensures sound { λ r. ⌜ SoundKept ⌝ }
     ensures framed { λ r. ⌜ Framed ⌝ }
-    ensures unseen { λ r. ⌜ Unseen ⌝ }
     ensures decodes { λ r. ⌜ Decodes ⌝ }
     ensures starred { λ r. ⌜ Starred ⌝ }
     ensures printed { λ r. ⌜ PrintedRun ⌝ }
 {
-    24
+    ANSWER_BYTES
 }

@@ -141,10 +141,10 @@ pub fn remove_side(state: &mut [u64], side: u8, which: Removal) -> u64
 pub fn state_sound(state: &[u64]) -> bool
     ensures { λ r. ⌜ r ≡ wordsSound counts (now (state .entry)) ⌝ }
 {
-    if state.len() != 640 {
+    if state.len() != machine::STATE_WORDS {
         return false;
     }
-    if !registers::file_sound(&state[0..128]) {
+    if !registers::file_sound(&state[0..machine::REGISTER_WORDS]) {
         return false;
     }
     let mut buckets = [0; 1024];
@@ -170,11 +170,11 @@ pub fn reset(state: &mut [u64]) -> u8
     ensures words { λ r. ⌜ now (state .exit) ≡ resetOf counts (now (state .entry)) ⌝ }
     ensures number { λ r. ⌜ r ≡ resetNumber counts (now (state .entry)) ⌝ }
 {
-    if state.len() != 640 {
+    if state.len() != machine::STATE_WORDS {
         return 1;
     }
     let mut i = 0;
-    while i < 640 {
+    while i < machine::STATE_WORDS {
         state[i] = reset_word(i);
         i += 1;
     }

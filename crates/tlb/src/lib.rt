@@ -5,12 +5,11 @@ ghost use Prim.Native.Nat.{_+_, _*_, _<_, _≤_, _%_, max};
 ghost use lib.ListN.{length, drop};
 ghost use Rattle.laws.specs.Tests.{anyOf, first, firstFrom};
 ghost use Rattle.machine.specs.Pages.{pageSize};
-ghost use Rattle.machine.specs.Slots.{slotsOf, wordsOf, slotOf, withSlot, onSlot, ownerWord, keyOwner, keyAddress, isLive, pageMatch, search, withUsed, clearUsed, sizeCode};
+ghost use Rattle.machine.specs.Slots.{slotsOf, wordsOf, slotOf, withSlot, onSlot, ownerWord, keyOwner, keyAddress, isLive, search, withUsed, clearUsed, sizeCode};
 ghost use Rattle.machine.specs.Insertion.{overlaps};
 ghost use Rattle.tlb.specs.Tables.{startsOf, spansOf, answersBy, Skips};
 use laws::Found;
 use machine::Key;
-use machine::PageMatch;
 use machine::Slot;
 
 // Slot i, its words as they are.
@@ -79,20 +78,6 @@ pub fn key_address(key: Key) -> u64
             partition: _,
             address,
         } => address.0,
-    }
-}
-
-// An address against a slot's page.
-pub fn match_page(x: Slot, address: u64) -> PageMatch
-    ensures { λ r. ⌜ r ≡ pageMatch x address ⌝ }
-{
-    let code = x.word % 16;
-    if pages::page_start(code, address) != x.page {
-        return PageMatch::Outside;
-    }
-    PageMatch::Within {
-        code: code,
-        offset: pages::page_offset(code, address),
     }
 }
 
