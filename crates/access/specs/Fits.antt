@@ -1,7 +1,8 @@
--- What a trap's registers have room for: a byte of fault type, 13 bits of context.
+-- What an access picks from, and what a trap's registers have room for: a byte of fault type, 13 bits of context.
 -- Assumes nothing.
 use Prim.Native.Nat.{_<_}
 use Rattle.machine.specs.Access.{trapFault}
+use Rattle.machine.specs.declared.Access.{Access}
 use Rattle.machine.specs.declared.Trap.{Trap}
 use Rattle.machine.specs.declared.Tag.{Tag}
 use Rattle.machine.specs.declared.Tag.the-variants.{Kept, Written}
@@ -9,6 +10,12 @@ use Rattle.machine.specs.declared.Prepared.{Prepared}
 use Rattle.machine.specs.declared.Prepared.the-variants.{Stopped, Bypass, Lookup}
 use Rattle.machine.specs.declared.Judged.{Judged}
 use Rattle.machine.specs.declared.Judged.the-variants.{Faulted, Translated}
+
+-- an access of a strand and a side that there are, with a context of 13 bits
+pub record AccessFits (a : Access) : Type 0 where
+  pub strands : a .strand < 4
+  pub sides : a .side < 2
+  pub contexts : a .context < 8192
 
 abbrev pub FaultFits : Trap → Type 0
 FaultFits t = trapFault t < 256

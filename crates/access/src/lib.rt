@@ -1,18 +1,18 @@
 // One access: document 01, "Access". Prepare (steps 1 to 4), lookup (5), judge (6 to 8), settle (used bit and registers).
 ghost use mathlib.Core.Path.{_≡_};
-ghost use mathlib.Core.Bool.{true, not, cond, _&&_, _||_};
+ghost use mathlib.Core.Bool.{not, cond, _&&_, _||_};
 ghost use Prim.Native.Nat.{_+_, _%_, _^_, _<_, _≤_};
 ghost use lib.Dec.{eqb};
 ghost use Rattle.laws.specs.declared.Found.the-variants.{At, Nothing};
 ghost use Rattle.machine.specs.Words.{bits};
-ghost use Rattle.machine.specs.Registers.{withRegister, translates, registersSound};
-ghost use Rattle.machine.specs.Questions.{kindSide};
-ghost use Rattle.machine.specs.State.{counts, stateIn, encode, withRegisters};
+ghost use Rattle.machine.specs.Registers.{withRegister, translates};
+ghost use Rattle.machine.specs.State.{stateIn, encode, withRegisters};
 ghost use Rattle.state.specs.Calls.{Lent, SoundIn, Did};
-ghost use Rattle.machine.specs.Access.{addressUsed, exception, trapTag, bypassTo, lookupKey, prepare, missTrap, faultType, judge, trapFault, trapRegisters, trapTo, settleFound, settle, accessTo};
+ghost use Rattle.machine.specs.Access.{addressUsed, accessOf, exception, trapTag, bypassTo, lookupKey, prepare, missTrap, faultType, judge, trapFault, trapRegisters, trapTo, settleFound, settle, accessTo};
 ghost use Rattle.machine.specs.declared.Prepared.the-variants.{Lookup};
 ghost use Rattle.machine.specs.declared.Tag.the-variants.{Kept};
-ghost use Rattle.access.specs.Fits.{FaultFits, TagFits, StopFits, JudgedFits};
+ghost use Rattle.access.specs.Faults.{faultless};
+ghost use Rattle.access.specs.Fits.{AccessFits, FaultFits, TagFits, StopFits, JudgedFits};
 use laws::Found;
 use machine::Access;
 use machine::Answer;
@@ -34,25 +34,49 @@ fn bit_of(word: u64, place: u64) -> u64
 
 // Whether translation is on for the side of an access.
 fn translation_on(state: &[u64], a: Access) -> bool
-    requires { ⌜ Lent (now state) × (a .strand < 4) ⌝ }
-    ensures { λ r. ⌜ r ≡ translates (stateIn (now (state .entry)) .registers) (a .strand) (kindSide (a .kind)) ⌝ }
+    requires { ⌜ Lent (now state) × AccessFits a ⌝ }
+    ensures { λ r. ⌜ r ≡ translates (stateIn (now (state .entry)) .registers) (a .strand) (a .side) ⌝ }
 {
-    let enables = state::read_register(state, a.strand, 4);
-    bit_of(enables, operands::access_side(a.kind) as u64) == 1
+    let enables = state::read_register(state, a.strand, machine::TRANSLATION);
+    bit_of(enables, a.side as u64) == 1
 }
 
 // The address used: with the mask on, modes 0 and 1 keep only its low 32 bits.
-pub fn used_address(state: &[u64], strand: u8, address: VirtualAddress) -> VirtualAddress
+fn used_address(state: &[u64], strand: u8, address: VirtualAddress) -> VirtualAddress
     requires { ⌜ Lent (now state) × (strand < 4) ⌝ }
     ensures { λ r. ⌜ r ≡ addressUsed (stateIn (now (state .entry)) .registers) strand address ⌝ }
 {
-    if state::read_register(state, strand, 5) != 1 {
+    if state::read_register(state, strand, machine::ADDRESS_MASK) != 1 {
         return address;
     }
-    if 2 <= state::read_register(state, strand, 3) {
+    if machine::HYPERPRIVILEGED <= state::read_register(state, strand, machine::MODE) {
         return address;
     }
     VirtualAddress(address.0 % 0x1_0000_0000)
+}
+
+// An access by its operands, with what they pick.
+pub fn access_of(
+    state: &[u64],
+    strand: u8,
+    kind: u8,
+    selector: u8,
+    size: u8,
+    address: VirtualAddress,
+) -> Access
+    requires { ⌜ Lent (now state) × (strand < 4) ⌝ }
+    ensures { λ r. ⌜ r ≡ accessOf (stateIn (now (state .entry)) .registers) strand kind selector size address ⌝ }
+{
+    let used = used_address(state, strand, address);
+    Access {
+        strand,
+        kind,
+        side: operands::access_side(kind),
+        selector,
+        size,
+        context: operands::selected_context(state, strand, selector),
+        used,
+    }
 }
 
 fn exception_of(kind: u8, fault: u64) -> Trap
@@ -67,13 +91,12 @@ fn exception_of(kind: u8, fault: u64) -> Trap
 
 // The context that a trap leaves in tag access: the one selected; 0 while translation is off.
 fn tag_written(state: &[u64], a: Access) -> Tag
-    requires { ⌜ Lent (now state) × (a .strand < 4)
-        × (registersSound (stateIn (now state) .registers) ≡ true) ⌝ }
+    requires { ⌜ Lent (now state) × AccessFits a ⌝ }
     ensures tag { λ r. ⌜ r ≡ trapTag (stateIn (now (state .entry)) .registers) a ⌝ }
     ensures fits { λ r. ⌜ TagFits r ⌝ }
 {
     if translation_on(state, a) {
-        return Tag::Written(operands::selected_context(state, a.strand, a.selector));
+        return Tag::Written(a.context);
     }
     Tag::Written(0)
 }
@@ -89,13 +112,13 @@ fn bypass_translation(used: VirtualAddress) -> Translation
 }
 
 fn key_of_access(state: &[u64], a: Access) -> Key
-    requires { ⌜ Lent (now state) × (a .strand < 4) ⌝ }
+    requires { ⌜ Lent (now state) × AccessFits a ⌝ }
     ensures { λ r. ⌜ r ≡ lookupKey (stateIn (now (state .entry)) .registers) a ⌝ }
 {
     let on = translation_on(state, a);
-    let partition = state::read_register(state, a.strand, 0);
-    let context = operands::selected_context(state, a.strand, a.selector);
-    operands::key_for(!on, partition, context, a.used.0)
+    let partition = state::read_register(state, a.strand, machine::PARTITION);
+    let used = a.used;
+    operands::key_for(!on, partition, a.context, used)
 }
 
 // Step 1: whether the address is aligned.
@@ -110,30 +133,23 @@ fn aligned(used: VirtualAddress, size: u8) -> bool
 fn is_user_nucleus(mode: u64, kind: u8, selector: u8) -> bool
     ensures { λ r. ⌜ r ≡ (eqb mode 0 && (not (eqb kind 0) && eqb selector 2)) ⌝ }
 {
-    if mode != 0 {
-        return false;
-    }
-    if kind == 0 {
-        return false;
-    }
-    selector == 2
+    mode == machine::USER && (kind != 0 && selector == 2)
 }
 
 // Steps 1 to 4.
 fn prepare_access(state: &[u64], a: Access) -> Prepared
-    requires { ⌜ Lent (now state) × (a .strand < 4) × (a .size < 4)
-        × (registersSound (stateIn (now state) .registers) ≡ true) ⌝ }
+    requires { ⌜ Lent (now state) × AccessFits a × (a .size < 4) ⌝ }
     ensures prepared { λ r. ⌜ r ≡ prepare (stateIn (now (state .entry)) .registers) a ⌝ }
     ensures fits { λ r. ⌜ StopFits r ⌝ }
 {
     if !aligned(a.used, a.size) {
         return Prepared::Stopped(Trap::AddressNotAligned, Tag::Kept);
     }
-    let mode = state::read_register(state, a.strand, 3);
+    let mode = state::read_register(state, a.strand, machine::MODE);
     if is_user_nucleus(mode, a.kind, a.selector) {
         return Prepared::Stopped(Trap::PrivilegedAction, Tag::Kept);
     }
-    if mode == 2 {
+    if mode == machine::HYPERPRIVILEGED {
         return Prepared::Bypass(bypass_translation(a.used));
     }
     if !pages::in_range(a.used.0) {
@@ -143,7 +159,7 @@ fn prepare_access(state: &[u64], a: Access) -> Prepared
 }
 
 fn miss_of(state: &[u64], a: Access) -> Trap
-    requires { ⌜ Lent (now state) × (a .strand < 4) ⌝ }
+    requires { ⌜ Lent (now state) × AccessFits a ⌝ }
     ensures trap { λ r. ⌜ r ≡ missTrap (stateIn (now (state .entry)) .registers) a ⌝ }
     ensures fits { λ r. ⌜ FaultFits r ⌝ }
 {
@@ -174,19 +190,10 @@ fn share(one: bool, other: bool, weight: u64) -> u64
 
 // A word that earns no access a fault type: nfo, e and p are 0 and cp is 1. Most are such.
 fn is_faultless(word: u64) -> bool
-    ensures { λ r. ⌜ r ≡ (not (eqb (bits 62 1 word) 1) && (not (eqb (bits 11 1 word) 1)
-        && (not (eqb (bits 8 1 word) 1) && eqb (bits 10 1 word) 1))) ⌝ }
+    ensures { λ r. ⌜ r ≡ faultless word ⌝ }
 {
-    if bit_of(word, 62) == 1 {
-        return false;
-    }
-    if bit_of(word, 11) == 1 {
-        return false;
-    }
-    if bit_of(word, 8) == 1 {
-        return false;
-    }
-    bit_of(word, 10) == 1
+    bit_of(word, 62) != 1
+        && (bit_of(word, 11) != 1 && (bit_of(word, 8) != 1 && bit_of(word, 10) == 1))
 }
 
 // The sum of the fault types that a word earns an access.
@@ -197,7 +204,7 @@ fn fault_of(mode: u64, kind: u8, word: u64) -> u64
     if is_faultless(word) {
         return 0;
     }
-    let privileged = share(bit_of(word, 8) == 1, mode == 0, 0x01);
+    let privileged = share(bit_of(word, 8) == 1, mode == machine::USER, 0x01);
     let side_effect = share(kind == 4, bit_of(word, 11) == 1, 0x02);
     let uncached = share(kind == 3, bit_of(word, 10) == 0, 0x04);
     let no_fault_only = share(bit_of(word, 62) == 1, kind != 4, 0x10);
@@ -216,61 +223,71 @@ fn is_write_denied(kind: u8, word: u64) -> bool
 
 // Steps 6 to 8.
 fn judge_word(state: &[u64], a: Access, word: u64) -> Judged
-    requires { ⌜ Lent (now state) × (a .strand < 4) ⌝ }
+    requires { ⌜ Lent (now state) × AccessFits a ⌝ }
     ensures judged { λ r. ⌜ r ≡ judge (stateIn (now (state .entry)) .registers) a word ⌝ }
     ensures fits { λ r. ⌜ JudgedFits r ⌝ }
 {
-    let fault = fault_of(state::read_register(state, a.strand, 3), a.kind, word);
+    let fault = fault_of(
+        state::read_register(state, a.strand, machine::MODE),
+        a.kind,
+        word,
+    );
     if fault != 0 {
         return Judged::Faulted(exception_of(a.kind, fault));
     }
     if is_write_denied(a.kind, word) {
         return Judged::Faulted(Trap::DataProtection);
     }
+    let used = a.used;
     Judged::Translated(Translation {
-        address: tte::physical_address(word, a.used.0),
+        address: tte::physical_address(word, used),
         attributes: bit_of(word, 10) + 2 * bit_of(word, 11) + 4 * bit_of(word, 12),
     })
 }
 
 // Writes a register that each side has: the base is its number on side 0.
 fn write_side(state: &mut [u64], a: Access, base: u8, value: u64)
-    requires { ⌜ Lent (now state) × (a .strand < 4) × (base < 31) ⌝ }
+    requires { ⌜ Lent (now state) × AccessFits a × (base < 31) ⌝ }
     ensures { λ r. ⌜ now (state .exit) ≡ encode (withRegisters (stateIn (now (state .entry)))
-        (withRegister (stateIn (now (state .entry)) .registers) (a .strand) (base + kindSide (a .kind)) value)) ⌝ }
+        (withRegister (stateIn (now (state .entry)) .registers) (a .strand) (base + a .side) value)) ⌝ }
 {
-    state::write_register(state, a.strand, base + operands::access_side(a.kind), value);
+    state::write_register(state, a.strand, base + a.side, value);
 }
 
 // The two registers that every trap sets: fault address (22) and fault (24).
 fn write_fault(state: &mut [u64], a: Access, trap: Trap)
-    requires { ⌜ Lent (now state) × (a .strand < 4) × FaultFits trap ⌝ }
+    requires { ⌜ Lent (now state) × AccessFits a × FaultFits trap ⌝ }
     ensures { λ r. ⌜ now (state .exit) ≡ encode (withRegisters (stateIn (now (state .entry)))
         (trapRegisters (stateIn (now (state .entry)) .registers) a trap Kept)) ⌝ }
 {
-    write_side(state, a, 22, a.used.0);
+    write_side(state, a, machine::FAULT_ADDRESS, a.used.0);
     write_side(
         state,
         a,
-        24,
+        machine::FAULT_STATUS,
         numbers::trap_number(trap) * 256 + numbers::trap_fault(trap),
     );
 }
 
 // What a trap writes.
 fn write_trap(state: &mut [u64], a: Access, trap: Trap, tag: Tag)
-    requires { ⌜ Lent (now state) × (a .strand < 4) × FaultFits trap × TagFits tag ⌝ }
+    requires { ⌜ Lent (now state) × AccessFits a × FaultFits trap × TagFits tag ⌝ }
     ensures { λ r. ⌜ now (state .exit) ≡ encode (withRegisters (stateIn (now (state .entry)))
         (trapRegisters (stateIn (now (state .entry)) .registers) a trap tag)) ⌝ }
 {
     write_fault(state, a, trap);
     if let Tag::Written(context) = tag {
-        write_side(state, a, 20, a.used.0 / 0x2000 * 0x2000 + context);
+        write_side(
+            state,
+            a,
+            machine::TAG_ACCESS,
+            a.used.0 / 0x2000 * 0x2000 + context,
+        );
     }
 }
 
 fn take_trap(state: &mut [u64], a: Access, trap: Trap, tag: Tag) -> Answer
-    requires { ⌜ Lent (now state) × (a .strand < 4) × FaultFits trap × TagFits tag ⌝ }
+    requires { ⌜ Lent (now state) × AccessFits a × FaultFits trap × TagFits tag ⌝ }
     ensures { λ r. ⌜ Did (now (state .exit)) r (trapTo (stateIn (now (state .entry))) a trap tag) ⌝ }
 {
     write_trap(state, a, trap, tag);
@@ -278,14 +295,13 @@ fn take_trap(state: &mut [u64], a: Access, trap: Trap, tag: Tag) -> Answer
     Answer::Trap(Trapped {
         trap: trap,
         address: used,
-        tag: operands::tag_of(state, a.strand, operands::access_side(a.kind)),
+        tag: operands::tag_of(state, a.strand, a.side),
     })
 }
 
 // A trap that writes tag access.
 fn take_tagged(state: &mut [u64], a: Access, trap: Trap) -> Answer
-    requires { ⌜ Lent (now state) × (a .strand < 4) × FaultFits trap
-        × (registersSound (stateIn (now state) .registers) ≡ true) ⌝ }
+    requires { ⌜ Lent (now state) × AccessFits a × FaultFits trap ⌝ }
     ensures { λ r. ⌜ Did (now (state .exit)) r
         (trapTo (stateIn (now (state .entry))) a trap (trapTag (stateIn (now (state .entry)) .registers) a)) ⌝ }
 {
@@ -295,8 +311,7 @@ fn take_tagged(state: &mut [u64], a: Access, trap: Trap) -> Answer
 
 // A miss traps and sets no used bit.
 fn settle_miss(state: &mut [u64], a: Access) -> Answer
-    requires { ⌜ Lent (now state) × (a .strand < 4)
-        × (registersSound (stateIn (now state) .registers) ≡ true) ⌝ }
+    requires { ⌜ Lent (now state) × AccessFits a ⌝ }
     ensures { λ r. ⌜ Did (now (state .exit)) r (settleFound (stateIn (now (state .entry))) a Nothing) ⌝ }
 {
     let trap = miss_of(state, a);
@@ -305,13 +320,11 @@ fn settle_miss(state: &mut [u64], a: Access) -> Answer
 
 // A hit has its used bit set, and is judged.
 fn settle_hit(state: &mut [u64], a: Access, i: usize) -> Answer
-    requires { ⌜ Lent (now state) × (a .strand < 4) × (i < 64)
-        × (registersSound (stateIn (now state) .registers) ≡ true) ⌝ }
+    requires { ⌜ Lent (now state) × AccessFits a × (i < 64) ⌝ }
     ensures { λ r. ⌜ Did (now (state .exit)) r (settleFound (stateIn (now (state .entry))) a (At i)) ⌝ }
 {
-    let side = operands::access_side(a.kind);
-    let judged = judge_word(state, a, state::slot_of(state, side, i).word);
-    state::mark_used(state, side, i);
+    let judged = judge_word(state, a, state::slot_of(state, a.side, i).word);
+    state::mark_used(state, a.side, i);
     match judged {
         Judged::Faulted(trap) => take_tagged(state, a, trap),
         Judged::Translated(translation) => Answer::Physical(translation),
@@ -320,10 +333,10 @@ fn settle_hit(state: &mut [u64], a: Access, i: usize) -> Answer
 
 // Step 5 and what comes of it.
 fn look_up(state: &mut [u64], hints: &mut [u8; 256], a: Access, key: Key) -> Answer
-    requires { ⌜ Lent (now state) × (a .strand < 4) × SoundIn (now state) ⌝ }
+    requires { ⌜ Lent (now state) × AccessFits a × SoundIn (now state) ⌝ }
     ensures { λ r. ⌜ Did (now (state .exit)) r (settle (stateIn (now (state .entry))) a (Lookup key)) ⌝ }
 {
-    let found = state::search_hinted(state, hints, operands::access_side(a.kind), key);
+    let found = state::search_hinted(state, hints, a.side, key);
     match found {
         Found::At(i) => settle_hit(state, a, i),
         Found::Nothing => settle_miss(state, a),
@@ -332,8 +345,7 @@ fn look_up(state: &mut [u64], hints: &mut [u8; 256], a: Access, key: Key) -> Ans
 
 // One access that passed its questions.
 pub fn access_to(state: &mut [u64], hints: &mut [u8; 256], a: Access) -> Answer
-    requires { ⌜ Lent (now state) × (a .strand < 4) × (a .size < 4)
-        × SoundIn (now state) ⌝ }
+    requires { ⌜ Lent (now state) × AccessFits a × (a .size < 4) × SoundIn (now state) ⌝ }
     ensures { λ r. ⌜ Did (now (state .exit)) r (accessTo (stateIn (now (state .entry))) a) ⌝ }
 {
     let prepared = prepare_access(state, a);

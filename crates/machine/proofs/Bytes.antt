@@ -12,17 +12,11 @@ use Rattle.machine.specs.Stream.{bytes, answerOf, answerBytes, answersBy
 use Rattle.machine.specs.Ledger.{bigEndian, line, valueFrom, nameIn}
 use Rattle.machine.specs.declared.Command.{Command}
 use Rattle.machine.specs.declared.Answer.{Answer}
-use Rattle.machine.specs.declared.Answer.the-variants as answer
 
 -- ---- lengths
 pub answer-length : (a : Answer) → length (answerBytes a) ≡ 24
 unfolding answerBytes
-answer-length (answer.Done n) = refl
-answer-length (answer.Physical t) = refl
-answer-length (answer.Trap t) = refl
-answer-length (answer.Read v w) = refl
-answer-length (answer.Displaced d) = refl
-answer-length (answer.Refused r) = refl
+answer-length a = refl
 
 pub answers-length : (cs : List Command) (u : State) → length (answersBytes u cs) ≡ length cs * 24
 unfolding answersBytes

@@ -24,7 +24,7 @@ use Rattle.machine.specs.Sound.{slotSound}
 use Rattle.machine.specs.Registers.{partition, selected}
 use Rattle.machine.specs.Questions.{kindSide, flagReal, keyOf, asked, verdict}
 use Rattle.machine.specs.Access.{lookupKey, prepare, settleFound, accessTo}
-use Rattle.machine.specs.declared.Access.{Access}
+use Rattle.machine.specs.declared.VirtualAddress.{VirtualAddress}
 use Rattle.machine.specs.State.{Counts, slotCount, State, sideOf, withSide}
 use Rattle.machine.specs.Step.{placedAnswer, demap, act}
 use Rattle.machine.specs.Stream.{Bytes, answerBytes}
@@ -32,11 +32,13 @@ use Rattle.machine.specs.Ledger.{Entry, Ledger, Name, nameIn, isNamed, l
 use Rattle.machine.specs.Places.{Reference, emptiedWhere, usedWhere, each, accessed, moved}
 use Rattle.machine.specs.Demand3.{InsertionSays, AccessSays}
 use Rattle.machine.specs.Frame.{entryIn}
+use Rattle.machine.specs.Views.{view}
 use Rattle.machine.specs.declared.Slot.{Slot}
 use Rattle.machine.specs.declared.Removal.{Removal}
 use Rattle.machine.specs.declared.Removal.the-variants as removal
 use Rattle.machine.specs.declared.Placed.{Placed}
 use Rattle.machine.specs.declared.Placed.the-variants.{Done, Displaced, Refused}
+use Rattle.machine.proofs.Views.{Plain}
 use Rattle.machine.proofs.Insertion.{isRefused, slot-had}
 use Rattle.machine.proofs.Sound.{live-parts, sound-slot}
 use Rattle.machine.specs.declared.Command.{Command}
@@ -45,7 +47,7 @@ use Rattle.machine.specs.declared.Answer.the-variants as answer
 use Rattle.machine.specs.declared.Verdict.the-variants.{Passed}
 use Rattle.machine.proofs.State.{strand-sound, kind-side, passed-asked}
 use Rattle.machine.proofs.Questions.{context-picked, write-bytes, write-alike, read-bytes, pointers-bytes}
-use Rattle.machine.proofs.Looks.{StepAlike, askedOf, Early, looks, ends, prepare-alike, key-alike, key-small, miss-alike, hit-alike, miss-not-hit, access-alike, fit-none, used-alike}
+use Rattle.machine.proofs.Looks.{StepAlike, accessFor, Early, looks, ends, prepare-alike, key-alike, key-small, miss-alike, hit-alike, miss-not-hit, access-alike, fit-none, used-alike}
 use Rattle.machine.proofs.Used.{SameSlots, found-slots}
 use Rattle.machine.proofs.Bytes.{line-answer, name-back, line-kind}
 use Rattle.machine.proofs.Alike.{SideAlike, Alike, placeIn, PlacesAlike, ReferenceAlike}
@@ -232,27 +234,15 @@ access-says l a b one e = record {
 -- ---- each command that no question refused, but for the insertion
 ruleset conj = (and-left, and-right, ltb-true)
 
--- the insertion is apart: it may find no slot
-abbrev pub NoInsertion : Command → Type 0
-NoInsertion (command.Write strand number value) = Unit {0}
-NoInsertion (command.Insert strand side flags word) = ⊥
-NoInsertion (command.DemapPage strand side selector flags address) = Unit {0}
-NoInsertion (command.DemapContext strand side selector) = Unit {0}
-NoInsertion (command.DemapAll strand side) = Unit {0}
-NoInsertion (command.Invalidate side) = Unit {0}
-NoInsertion (command.Access strand kind selector size address) = Unit {0}
-NoInsertion (command.Read strand number) = Unit {0}
-NoInsertion (command.Pointers strand side) = Unit {0}
-
 done-bytes : (k : ℕ) → answerBytes (answer.Done k) ≡ line 0 0 0 0 k 0
 unfolding answerBytes
 done-bytes k = line-answer 0 k 0 (omega arith) (omega arith) (omega arith)
 
 module _ {n : Counts} {u : State} {l : Ledger} (h : Alike n u l) where
   -- the test of a demap, in the unit's words and in the ledger's
-  page-same : (strand selector flags address : ℕ) → strand < 4 → selector < 3 → flags < 2
+  page-same : (strand selector flags : ℕ) (address : VirtualAddress) → strand < 4 → selector < 3 → flags < 2
       → SameTest (removes (removal.Page (keyOf (flagReal flags) (partition (u .registers) strand) (selected (u .registers) strand selector) address)))
-      (isAt (l .registers strand 0) (eqb flags 1) (contextPicked l strand selector) address)
+      (isAt (l .registers strand 0) (eqb flags 1) (contextPicked l strand selector) (address .0))
   page-same strand selector flags address s c f =
       let w = strand-sound (u .registers) strand (h .allowed) s in
       let e : flags % 2 ≡ flags = omega arith in
@@ -271,18 +261,18 @@ module _ {n : Counts} {u : State} {l : Ledger} (h : Alike n u l) where
   demap-does side which p b t = record { bytes = sym (demap-bytes h side b which p t); alike = demap-alike h side b which p t }
 
   -- ---- the lookup itself
-  looked : (a : Access) → SideAlike (slotCount n (kindSide (a .kind))) (sideOf u (kindSide (a .kind))) (l .entries (kindSide (a .kind)))
+  looked : (a : Asked) → SideAlike (slotCount n (kindSide (a .kind))) (sideOf u (kindSide (a .kind))) (l .entries (kindSide (a .kind)))
   looked a = alike-side (kindSide (a .kind)) (kind-side (a .kind)) h
 
-  key-same : (a : Access) (s : a .strand < 4) (c : a .selector < 3)
-      → SameTest (answersTo (keyOf (not (translationOn l (askedOf a))) (l .registers (a .strand) 0) (contextPicked l (a .strand) (a .selector)) (a .used .0))) (foundBy l (askedOf a))
-  key-same a s c = key-test _ (not (translationOn l (askedOf a))) _ (a .used .0) (key-small h a s c .0) (key-small h a s c .1)
+  key-same : (a : Asked) (s : a .strand < 4) (c : a .selector < 3)
+      → SameTest (answersTo (keyOf (not (translationOn l a)) (l .registers (a .strand) 0) (contextPicked l (a .strand) (a .selector)) (record { 0 = a .used }))) (foundBy l a)
+  key-same a s c = key-test _ (not (translationOn l a)) _ (record { 0 = a .used }) (key-small h a s c .0) (key-small h a s c .1)
 
-  looked-one : (a : Access) (s : a .strand < 4) (c : a .selector < 3) → count (foundBy l (askedOf a)) (l .entries (kindSide (a .kind))) ≤ 1
-  looked-one a s c = alike-one (looked a) _ (not (translationOn l (askedOf a))) _ (a .used .0) (key-small h a s c .0) (key-small h a s c .1)
+  looked-one : (a : Asked) (s : a .strand < 4) (c : a .selector < 3) → count (foundBy l a) (l .entries (kindSide (a .kind))) ≤ 1
+  looked-one a s c = alike-one (looked a) _ (not (translationOn l a)) _ (record { 0 = a .used }) (key-small h a s c .0) (key-small h a s c .1)
 
-  found-alike : (a : Access) (s : a .strand < 4) (c : a .selector < 3) (f : Found) → first (answersTo (lookupKey (u .registers) a)) (sideOf u (kindSide (a .kind))) ≡ f
-      → StepAlike n (settleFound u a f) (lookedUp l (askedOf a) (find (foundBy l (askedOf a)) (l .entries (kindSide (a .kind)))))
+  found-alike : (a : Asked) (s : a .strand < 4) (c : a .selector < 3) (f : Found) → first (answersTo (lookupKey (u .registers) (accessFor (u .registers) a))) (sideOf u (kindSide (a .kind))) ≡ f
+      → StepAlike n (settleFound u (accessFor (u .registers) a) f) (lookedUp l a (find (foundBy l a) (l .entries (kindSide (a .kind)))))
   found-alike a s c Nothing e = rw (alike-nothing (looked a) (key-same a s c) (rw (key-alike h a s c) at e)) (miss-alike h a s c)
   found-alike a s c (At i) e =
       let f = alike-found (looked a) (key-same a s c) i (looked-one a s c) (rw (key-alike h a s c) at e) in
@@ -292,19 +282,19 @@ module _ {n : Counts} {u : State} {l : Ledger} (h : Alike n u l) where
       let good : wordSound (x .word) ≡ true = live-parts x (sound-slot (sideOf u k) i (looked a .sound)) (f .0) .word in
       rw (f .1) (hit-alike marked a s c (entryIn x) refl good)
 
-  access-does : (a : Access) → a .strand < 4 → a .selector < 3 → StepAlike n (accessTo u a) (accesses l (askedOf a))
+  access-does : (a : Asked) → a .strand < 4 → a .selector < 3 → StepAlike n (accessTo u (accessFor (u .registers) a)) (accesses l a)
   unfolding accesses
   access-does a s c = access-alike h a s c _ (found-alike a s c _ refl)
 
-  pub access-told : (a : Access) → a .strand < 4 → a .selector < 3 → looksUp l (askedOf a) ≡ true
-      → AccessSays l (askedOf a) (answerBytes (accessTo u a .answer))
+  pub access-told : (a : Asked) → a .strand < 4 → a .selector < 3 → looksUp l a ≡ true
+      → AccessSays l a (answerBytes (accessTo u (accessFor (u .registers) a) .answer))
   unfolding accesses
   access-told a s c e =
-      access-says l (askedOf a) _ (looked-one a s c)
-      (access-does a s c .bytes ∙ ap (λ (w : Written). w .bytes) (fit-none (earlySteps l (askedOf a)) _ (looks-past l (askedOf a) e)))
+      access-says l a _ (looked-one a s c)
+      (access-does a s c .bytes ∙ ap (λ (w : Written). w .bytes) (fit-none (earlySteps l a) _ (looks-past l a e)))
 
   -- a command that passed and is no insertion
-  pub does-alike : (c : Command) → verdict u c ≡ Passed → (d : Name) → NoInsertion c → StepAlike n (act u c) (does (slotCount n) l c d)
+  pub does-alike : (c : Command) → verdict u c ≡ Passed → (d : Name) → Plain (view c) → StepAlike n (act u c) (does (slotCount n) l c d)
   unfolding act does asked allOf pointers
   does-alike (command.Write strand number value) v d t = record { bytes = write-bytes u strand number value; alike = write-alike h strand number value v }
   does-alike (command.Insert strand side flags word) v d t = absurd t
@@ -341,30 +331,30 @@ module _ {n : Counts} {u : State} {k : Reference} (h : ReferenceAlike n u k) whe
       → PlacesAlike (demap u side which .state) (each k side (emptiedWhere p))
   demap-places side which p b t = places-each (h .places) side b _ (emptiedWhere p) (emptied-side t (sideOf u side) (alike-side side b (h .ledger) .sound))
 
-  found-places : (a : Access) (s : a .strand < 4) (c : a .selector < 3) (f : Found)
-      → first (answersTo (lookupKey (u .registers) a)) (sideOf u (kindSide (a .kind))) ≡ f
-      → PlacesAlike (settleFound u a f .state) (each k (kindSide (a .kind)) (usedWhere (foundBy l (askedOf a))))
+  found-places : (a : Asked) (s : a .strand < 4) (c : a .selector < 3) (f : Found)
+      → first (answersTo (lookupKey (u .registers) (accessFor (u .registers) a))) (sideOf u (kindSide (a .kind))) ≡ f
+      → PlacesAlike (settleFound u (accessFor (u .registers) a) f .state) (each k (kindSide (a .kind)) (usedWhere (foundBy l a)))
   found-places a s c Nothing e =
       let side : ℕ = kindSide (a .kind) in
       let t = key-same (h .ledger) a s c in
       let none-found = none-count _ (sideOf u side) (found-none noSlot _ (sideOf u side) (rw (key-alike (h .ledger) a s c) at e)) in
-      places-same _ (places-each (h .places) side (kind-side (a .kind)) (sideOf u side) (usedWhere (foundBy l (askedOf a)))
+      places-same _ (places-each (h .places) side (kind-side (a .kind)) (sideOf u side) (usedWhere (foundBy l a))
       (unused-side t (sideOf u side) (looked (h .ledger) a .sound) none-found)) (same-side u side)
   found-places a s c (At i) e =
       let side : ℕ = kindSide (a .kind) in
       let t = key-same (h .ledger) a s c in
-      places-same _ (places-each (h .places) side (kind-side (a .kind)) (setUsed i (sideOf u side)) (usedWhere (foundBy l (askedOf a)))
+      places-same _ (places-each (h .places) side (kind-side (a .kind)) (setUsed i (sideOf u side)) (usedWhere (foundBy l a))
       (used-side t (sideOf u side) i (looked (h .ledger) a .sound)
-      (omega (arith, alike-count (looked (h .ledger) a) t, looked-one (h .ledger) a s c)) (rw (key-alike (h .ledger) a s c) at e))) (found-slots u a i)
+      (omega (arith, alike-count (looked (h .ledger) a) t, looked-one (h .ledger) a s c)) (rw (key-alike (h .ledger) a s c) at e))) (found-slots u (accessFor (u .registers) a) i)
 
-  access-places : (a : Access) → a .strand < 4 → a .selector < 3 → PlacesAlike (accessTo u a .state) (accessed k (askedOf a))
+  access-places : (a : Asked) → a .strand < 4 → a .selector < 3 → PlacesAlike (accessTo u (accessFor (u .registers) a) .state) (accessed k a)
   access-places a s c = go (prepare-alike (h .ledger) a s c)
     where
-      go : Early n u a (prepare (u .registers) a) (earlySteps l (askedOf a)) → PlacesAlike (accessTo u a .state) (accessed k (askedOf a))
-      go (looks p past) = rw (p, none-passes (λ q. q .0) (earlySteps l (askedOf a)), past) (found-places a s c _ refl)
-      go (ends any z f) = rw (none-passes (λ q. q .0) (earlySteps l (askedOf a)), any) (places-same _ (h .places) z)
+      go : Early n u (accessFor (u .registers) a) (prepare (u .registers) (accessFor (u .registers) a)) (earlySteps l a) → PlacesAlike (accessTo u (accessFor (u .registers) a) .state) (accessed k a)
+      go (looks p past) = rw (p, none-passes (λ q. q .0) (earlySteps l a), past) (found-places a s c _ refl)
+      go (ends any z f) = rw (none-passes (λ q. q .0) (earlySteps l a), any) (places-same _ (h .places) z)
 
-  pub does-places : (c : Command) → verdict u c ≡ Passed → NoInsertion c → PlacesAlike (act u c .state) (moved (slotCount n) k c)
+  pub does-places : (c : Command) → verdict u c ≡ Passed → Plain (view c) → PlacesAlike (act u c .state) (moved (slotCount n) k c)
   unfolding act moved asked allOf
   does-places (command.Write strand number value) v t = places-same _ (h .places) (refl, refl)
   does-places (command.Insert strand side flags word) v t = absurd t

@@ -12,7 +12,7 @@ use Rattle.laws.proofs.Bools.{by-test, clash, and-left, and-right}
 use Rattle.machine.specs.Slots.{noSlot, answersTo}
 use Rattle.machine.specs.Insertion.{candidate, placed, hasSlot}
 use Rattle.machine.specs.State.{Counts, slotCount, State, sideOf, stateOf, encode}
-use Rattle.machine.specs.Questions.{kindSide, insertion, asked, verdict}
+use Rattle.machine.specs.Questions.{insertion, asked, verdict}
 use Rattle.machine.specs.Access.{prepare, judge, settleJudged, settleFound, settle}
 use Rattle.machine.specs.Step.{placedAnswer, act, stepBy, step}
 use Rattle.machine.specs.Stream.{answerBytes}
@@ -49,13 +49,13 @@ judged-kind u a (judged.Translated p) h = omega arith
 found-kind : (u : State) (a : Access) (f : Found) → getD (answerBytes (settleFound u a f .answer)) 0 0 ≡ 5 → ⊥
 unfolding answerBytes
 found-kind u a Nothing h = omega arith
-found-kind u a (At i) h = judged-kind _ a (judge (u .registers) a (getD (sideOf u (kindSide (a .kind))) i noSlot .word)) h
+found-kind u a (At i) h = judged-kind _ a (judge (u .registers) a (getD (sideOf u (a .side)) i noSlot .word)) h
 
 settled-kind : (u : State) (a : Access) (p : Prepared) → getD (answerBytes (settle u a p .answer)) 0 0 ≡ 5 → ⊥
 unfolding answerBytes
 settled-kind u a (prepared.Stopped t tag) h = omega arith
 settled-kind u a (prepared.Bypass p) h = omega arith
-settled-kind u a (prepared.Lookup key) h = found-kind u a (first (answersTo key) (sideOf u (kindSide (a .kind)))) h
+settled-kind u a (prepared.Lookup key) h = found-kind u a (first (answersTo key) (sideOf u (a .side))) h
 
 placed-kind : (r : Placed) → not (isRefused r) ≡ true → getD (answerBytes (placedAnswer r)) 0 0 ≡ 5 → ⊥
 unfolding answerBytes

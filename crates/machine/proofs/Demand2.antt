@@ -20,7 +20,7 @@ use Rattle.machine.specs.Slots.{noSlot, isLive, answersTo}
 use Rattle.machine.specs.Insertion.{candidate, placed}
 use Rattle.machine.specs.Registers.{mode}
 use Rattle.machine.specs.State.{Counts, State, sideOf, sound}
-use Rattle.machine.specs.Questions.{kindSide, insertion, verdict}
+use Rattle.machine.specs.Questions.{insertion, verdict}
 use Rattle.machine.specs.Access.{bypassTo, prepare, faultType, attributesOf, judge, settleJudged, settleFound, settle}
 use Rattle.machine.specs.Step.{placedAnswer, act, stepBy, step}
 use Rattle.machine.specs.Demand2.{IsBits, HasBits, Fields, Demand2}
@@ -93,9 +93,9 @@ unfolding judge
 hit-below file a word t w h =
     by-test (not (eqb (faultType (mode file (a .strand)) (a .kind) word) 0)) (λ e. other (rw e at h)) (λ e.
     by-test ((eqb (a .kind) 2 || eqb (a .kind) 3) && eqb (bits 6 1 word) 0) (λ f. other (rw (e, f) at h)) (λ f.
-    let same : judged.Translated (record { address = physicalAt word (a .used .0); attributes = attributesOf word }) ≡ judged.Translated t = rw (e, f) at h in
-    let is : _≡_ {A = Translation} (record { address = physicalAt word (a .used .0); attributes = attributesOf word }) t = cc in
-    rw (← is) (physical-below word w (a .used .0))))
+    let same : judged.Translated (record { address = physicalAt word (a .used); attributes = attributesOf word }) ≡ judged.Translated t = rw (e, f) at h in
+    let is : _≡_ {A = Translation} (record { address = physicalAt word (a .used); attributes = attributesOf word }) t = cc in
+    rw (← is) (physical-below word w (a .used))))
   where
     other : {s : Trap} → judged.Faulted s ≡ judged.Translated t → t .address .0 < 2 ^ 40
     other z = absurd (let w : _≡_ {A = ℕ} 0 1 = cc in omega arith)
@@ -117,15 +117,15 @@ module _ (n : Counts) (u : State) (h : sound n u ≡ true) (a : Access) (t : Tra
   judged-below v (judged.Faulted s) k e = no-address refl e
   judged-below v (judged.Translated p) k e = k (let is : p ≡ t = cc in ap judged.Translated is)
 
-  found-below : (key : Key) (f : Found) → first (answersTo key) (sideOf u (kindSide (a .kind))) ≡ f
+  found-below : (key : Key) (f : Found) → first (answersTo key) (sideOf u (a .side)) ≡ f
       → settleFound u a f .answer ≡ answer.Physical t → t .address .0 < 2 ^ 40
   unfolding answersTo
   found-below key Nothing g e = no-address refl e
   found-below key (At i) g e =
-      let s : List Slot = sideOf u (kindSide (a .kind)) in
+      let s : List Slot = sideOf u (a .side) in
       let x : Slot = getD s i noSlot in
       let live : isLive x ≡ true = and-left _ _ (found-at noSlot (answersTo key) s i g .1) in
-      let word = live-parts x (sound-slot s i (sound-side n u h (kindSide (a .kind)) .1)) live .word in
+      let word = live-parts x (sound-slot s i (sound-side n u h (a .side) .1)) live .word in
       judged-below _ (judge (u .registers) a (x .word)) (hit-below (u .registers) a (x .word) t word) e
 
   settled-below : (p : Prepared) → prepare (u .registers) a ≡ p → settle u a p .answer ≡ answer.Physical t → t .address .0 < 2 ^ 40

@@ -21,10 +21,11 @@ use Rattle.machine.specs.Questions.{flagLocked, insertion, asked, verdic
 use Rattle.machine.specs.Step.{placedAnswer, act, step}
 use Rattle.machine.specs.Stream.{Bytes, Taken, answerBytes, after, answersBytes, runOf}
 use Rattle.machine.specs.Ledger.{Ledger, line, Written, nameIn, addressGood, wordGood, tagOf, newEntry, firstNo, questions, lacksSlot, inserts, does, enters}
-use Rattle.machine.specs.Demand3.{unitBytes, fed, fedNext, fedAfter, ledgerBytes, Says, CommandsSay, RunSays, Event, run, EventsSay, Demand3}
+use Rattle.machine.specs.Demand3.{unitBytes, fed, fedNext, fedAfter, ledgerBytes, Says, SaysOf, CommandsSay, RunSays, Event, run, EventsSay, Demand3}
 use Rattle.machine.specs.Frame.{entryIn}
 use Rattle.machine.specs.Places.{Place, empty, Reference, moved, placesAfter, referenceStart, row, referenceWords}
 use Rattle.machine.specs.Format.{Reading, ReadAs}
+use Rattle.machine.specs.Views.{view}
 use Rattle.machine.specs.declared.Slot.{Slot}
 use Rattle.machine.specs.declared.Placed.{Placed}
 use Rattle.machine.specs.declared.Refusal.the-variants as refusal
@@ -32,6 +33,7 @@ use Rattle.machine.specs.declared.Command.{Command}
 use Rattle.machine.specs.declared.Command.the-variants as command
 use Rattle.machine.specs.declared.Verdict.{Verdict}
 use Rattle.machine.specs.declared.Verdict.the-variants.{Passed, Refused}
+use Rattle.machine.proofs.Views.{Plain, by-view}
 use Rattle.machine.proofs.Sound.{entry-live}
 use Rattle.machine.proofs.State.{sound-file, sound-encode, words-sound, passed-asked, insertion-sound}
 use Rattle.machine.proofs.Runs.{commandsOf, run-answered, run-taken, run-stop, run-words, run-front, run-past}
@@ -42,7 +44,7 @@ use Rattle.machine.proofs.Places.{inserted-side, places-with, side-word
 use Rattle.machine.proofs.Sides.{alike-empty, alike-lacks}
 use Rattle.machine.proofs.Questions.{verdictNumber, same-number, number-passed, number-refused, slotLeft, refused-alike, passed-alike, refused-bytes, reset-alike, tag-address, address-good, word-good, word-insertable, insertion-entry}
 use Rattle.machine.proofs.Looks.{StepAlike, used-alike}
-use Rattle.machine.proofs.Commands.{NoInsertion, does-alike, does-places, access-told, insertion-says, insert-agrees, insert-alike, insert-refused, alike-side}
+use Rattle.machine.proofs.Commands.{does-alike, does-places, access-told, insertion-says, insert-agrees, insert-alike, insert-refused, alike-side}
 
 ruleset conj = (and-left, and-right, ltb-true)
 
@@ -52,18 +54,6 @@ pub record StepSays (n : Counts) (u : State) (k : Reference) (c : Command) : Typ
   pub bytes : fed n u k c .bytes ≡ unitBytes u c
   pub says : Says n k c (unitBytes u c)
   pub alike : ReferenceAlike n (step u c .state) (fedNext n u k c)
-
--- nothing is said of a command that 5 to 12 refuse
-says-refused : (n : Counts) (k : Reference) (c : Command) (b : Bytes) → (firstNo (questions (k .ledger) c) ≡ 0 → ⊥) → Says n k c b
-says-refused n k (command.Write strand number value) b e = tt
-says-refused n k (command.Insert strand side flags word) b e = λ f. absurd (e f)
-says-refused n k (command.DemapPage strand side selector flags address) b e = tt
-says-refused n k (command.DemapContext strand side selector) b e = tt
-says-refused n k (command.DemapAll strand side) b e = tt
-says-refused n k (command.Invalidate side) b e = tt
-says-refused n k (command.Access strand kind selector size address) b e = λ f. absurd (e f)
-says-refused n k (command.Read strand number) b e = tt
-says-refused n k (command.Pointers strand side) b e = tt
 
 step-refused : (n : Counts) (u : State) (k : Reference) (c : Command) → ReferenceAlike n u k → (firstNo (questions (k .ledger) c) ≡ 0 → ⊥) → StepSays n u k c
 unfolding step enters placesAfter
@@ -76,7 +66,7 @@ step-refused n u k c h e = go (verdict u c) (refused-alike (h .ledger) c e)
         let t : eqb (firstNo (questions (k .ledger) c)) 0 ≡ false = ne-eqb _ 0 e in
         record {
           bytes = rw (v, t) (ap (λ (i : ℕ). line 5 i 0 0 0 0) (sym f) ∙ sym (refused-bytes r));
-          says = says-refused n k c _ e;
+          says = λ f. absurd (e f);
           alike = rw (v, t) h;
         }
 
@@ -86,33 +76,26 @@ passed {u} h c f e = number-passed (verdict u c) (passed-alike h c e ∙ rw f)
 
 step-passed : {n : Counts} {u : State} {k : Reference} (c : Command) → verdict u c ≡ Passed → firstNo (questions (k .ledger) c) ≡ 0
     → StepAlike n (act u c) (does (slotCount n) (k .ledger) c (nameIn (unitBytes u c))) → PlacesAlike (act u c .state) (moved (slotCount n) k c)
-    → (Says n k c (unitBytes u c)) → StepSays n u k c
+    → SaysOf n k (view c) (unitBytes u c) → StepSays n u k c
 unfolding step enters placesAfter
 step-passed c v e s p y = record {
   bytes = rw (v, e) (sym (rw v at (s .bytes)));
-  says = y;
+  says = λ _. y;
   alike = record { ledger = rw (v, e) (rw v at (s .alike)); places = rw (v, e) p };
 }
 
 -- what is said of one that is no insertion
-says-passed : {n : Counts} {u : State} {k : Reference} → ReferenceAlike n u k → (c : Command) → NoInsertion c → verdict u c ≡ Passed
-    → Says n k c (answerBytes (act u c .answer))
+says-passed : {n : Counts} {u : State} {k : Reference} → ReferenceAlike n u k → (c : Command) → Plain (view c) → verdict u c ≡ Passed
+    → SaysOf n k (view c) (answerBytes (act u c .answer))
 unfolding act asked allOf
-says-passed h (command.Write strand number value) t v = tt
-says-passed h (command.Insert strand side flags word) t v = absurd t
-says-passed h (command.DemapPage strand side selector flags address) t v = tt
-says-passed h (command.DemapContext strand side selector) t v = tt
-says-passed h (command.DemapAll strand side) t v = tt
-says-passed h (command.Invalidate side) t v = tt
-says-passed {u} h (command.Access strand kind selector size address) t v =
+says-passed {u} h =
+    by-view (λ strand side flags word t v. absurd t) (λ strand kind selector size address t v.
     let q = passed-asked u (command.Access strand kind selector size address) v in
     let s : strand < 4 = search conj in
-    rw (← (used-alike (h .ledger) strand address s)) (λ _. access-told (h .ledger) _ s (search conj))
-says-passed h (command.Read strand number) t v = tt
-says-passed h (command.Pointers strand side) t v = tt
+    rw (← (used-alike (h .ledger) strand address s)) (access-told (h .ledger) _ s (search conj))) (λ c e t v. rw e tt)
 
 -- one that passed and is no insertion
-step-plain : {n : Counts} {u : State} {k : Reference} → ReferenceAlike n u k → (c : Command) → NoInsertion c → slotLeft u c ≡ true
+step-plain : {n : Counts} {u : State} {k : Reference} → ReferenceAlike n u k → (c : Command) → Plain (view c) → slotLeft u c ≡ true
     → firstNo (questions (k .ledger) c) ≡ 0 → StepSays n u k c
 unfolding step
 step-plain {u} h c t f e =
@@ -229,15 +212,10 @@ pub step-says : (n : Counts) (u : State) (k : Reference) (c : Command) → Refer
 step-says n u k c h = by-test (eqb (firstNo (questions (k .ledger) c)) 0) (λ t. by-command c (eqb-true _ 0 t)) (λ t. step-refused n u k c h (eqb-false _ 0 t))
   where
     by-command : (c : Command) → firstNo (questions (k .ledger) c) ≡ 0 → StepSays n u k c
-    by-command (command.Write strand number value) e = step-plain h (command.Write strand number value) tt refl e
-    by-command (command.Insert strand side flags word) e = step-insert h strand side flags word e
-    by-command (command.DemapPage strand side selector flags address) e = step-plain h (command.DemapPage strand side selector flags address) tt refl e
-    by-command (command.DemapContext strand side selector) e = step-plain h (command.DemapContext strand side selector) tt refl e
-    by-command (command.DemapAll strand side) e = step-plain h (command.DemapAll strand side) tt refl e
-    by-command (command.Invalidate side) e = step-plain h (command.Invalidate side) tt refl e
-    by-command (command.Access strand kind selector size address) e = step-plain h (command.Access strand kind selector size address) tt refl e
-    by-command (command.Read strand number) e = step-plain h (command.Read strand number) tt refl e
-    by-command (command.Pointers strand side) e = step-plain h (command.Pointers strand side) tt refl e
+    by-command =
+        by-view (step-insert h)
+        (λ strand kind selector size address. step-plain h (command.Access strand kind selector size address) tt refl)
+        (λ c e. step-plain h c (rw e tt) (rw e))
 
 -- ---- a state that some ledger describes is sound
 side-fits : {n : ℕ} {s : _} {m : _} → SideAlike n s m → sideFits n s ≡ true

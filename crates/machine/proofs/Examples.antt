@@ -5,7 +5,7 @@ use Rattle.machine.specs.Words.{frame, physicalAt}
 use Rattle.machine.specs.Registers.{writable, allowed, resetStrands}
 use Rattle.machine.specs.Questions.{asked, ask, verdict}
 use Rattle.machine.specs.Access.{prepare, faultType, judge}
-use Rattle.machine.specs.Step.{tsbOffset, tsbPointer}
+use Rattle.machine.specs.Tsb.{tsbOffset, tsbPointer}
 use Rattle.machine.specs.Examples.{Starred}
 
 pub starred : Starred

@@ -9,7 +9,7 @@ use lib.Dec.{eqb, ltb}
 use lib.ListN.{length, length-append}
 use borrow.Author.Tests.{eqb-true, ltb-true, lt-ltb, le-ltb}
 use Rattle.laws.proofs.Bools.{by-test, clash}
-use Rattle.machine.specs.Stream.{byte, eight, decodeAt}
+use Rattle.machine.specs.Stream.{byte, eight, widthOf, commandAt, decodeAt}
 use Rattle.machine.specs.Ledger.{bigEndian, valueFrom}
 use Rattle.machine.specs.Format.{encoded, fits, Decodes}
 use Rattle.machine.specs.declared.Command.{Command}
@@ -19,7 +19,7 @@ use Rattle.machine.proofs.Bytes.{bytes-big-endian, value-back}
 
 -- what stands at a position does not go by what stands before it
 decode-suc : (x : ℕ) (s : List ℕ) (at : ℕ) → decodeAt (x ∷ s) (suc at) ≡ decodeAt s at
-unfolding decodeAt eight
+unfolding decodeAt commandAt eight
 decode-suc x s at = simp (suc-add, suc-sub-suc)
 
 pub decode-shift : (p s : List ℕ) → decodeAt (p ++ s) (length p) ≡ decodeAt s 0
@@ -40,10 +40,10 @@ eight-back v r h =
 -- a command whose bytes are all there
 known-at : (r : List ℕ) (c : Command) → fits c ≡ true → ltb (length (encoded c ++ r) - 0) (length (encoded c)) ≡ false
     → decodeAt (encoded c ++ r) 0 ≡ Known c (length (encoded c))
-unfolding decodeAt encoded fits eight bigEndian
+unfolding decodeAt widthOf commandAt encoded fits eight bigEndian
 known-at r (command.Write strand register value) h w = rw (w, eight-back value r h)
 known-at r (command.Insert strand side flags word) h w = rw (w, eight-back word r h)
-known-at r (command.DemapPage strand side selector flags address) h w = rw (w, eight-back address r h)
+known-at r (command.DemapPage strand side selector flags address) h w = rw (w, eight-back (address .0) r h)
 known-at r (command.DemapContext strand side selector) h w = rw w
 known-at r (command.DemapAll strand side) h w = rw w
 known-at r (command.Invalidate side) h w = rw w
@@ -56,14 +56,14 @@ no-command : (b k : ℕ) → (ltb b 1 || ltb 9 b) ≡ true → (ltb k 1 || ltb 9
 no-command b k h i = by-test (eqb b k) (λ e. clash h (rw (eqb-true b k e) i)) (λ e. e)
 
 unknown-at : (s : List ℕ) (at : ℕ) → (ltb (byte s at) 1 || ltb 9 (byte s at)) ≡ true → decodeAt s at ≡ Stop 2
-unfolding decodeAt
+unfolding decodeAt widthOf
 unknown-at s at h =
     let no : (k : ℕ) → (ltb k 1 || ltb 9 k) ≡ false → eqb (byte s at) k ≡ false = λ k. no-command (byte s at) k h in
     simp (no 1 refl, no 2 refl, no 3 refl, no 4 refl, no 5 refl, no 6 refl, no 7 refl, no 8 refl, no 9 refl)
 
 -- a command's byte with too few bytes from it
 cut-at : (s : List ℕ) (c : Command) → byte s 0 ≡ byte (encoded c) 0 → ltb (length s - 0) (length (encoded c)) ≡ true → decodeAt s 0 ≡ Stop 3
-unfolding decodeAt encoded bigEndian
+unfolding decodeAt widthOf encoded bigEndian
 cut-at s (command.Write strand register value) e w = rw (e, w)
 cut-at s (command.Insert strand side flags word) e w = rw (e, w)
 cut-at s (command.DemapPage strand side selector flags address) e w = rw (e, w)

@@ -4,7 +4,7 @@
 use Prim.Native.Nat.{ℕ, zero, suc, _+_, _/_, _%_, _^_, _≤_, _<_}
 use mathlib.Core.Path.{_≡_, refl, ap, sym, _∙_}
 use mathlib.Core.Bool.{Bool, true, false, not, _&&_}
-use mathlib.Core.List.{List, [], _∷_}
+use mathlib.Core.List.{List}
 use mathlib.Core.Logic.{_⊎_, inl, inr, ⊎-elim}
 use native.Mathlib.Omega.{arith}
 use native.Mathlib.Nat.{mod-eq-of-lt}
@@ -24,18 +24,18 @@ use Rattle.machine.specs.Insertion.{overlaps, removed, removes, isEmpty,
 use Rattle.machine.specs.Sound.{slotSound, sideSound}
 use Rattle.machine.specs.Registers.{partition, tagAccess, tagAddress}
 use Rattle.machine.specs.State.{Counts, State, sideOf, withSide, sound}
-use Rattle.machine.specs.Questions.{kindSide, flagReal, flagLocked, keyOf, insertion, asked, verdict}
-use Rattle.machine.specs.Access.{addressUsed, prepare, settleJudged, settleFound, settle, judge}
+use Rattle.machine.specs.Questions.{flagReal, flagLocked, keyOf, insertion, asked, verdict}
+use Rattle.machine.specs.Access.{accessOf, prepare, settleJudged, settleFound, settle, judge}
+use Rattle.machine.specs.declared.VirtualAddress.{VirtualAddress}
 use Rattle.machine.specs.declared.Access.{Access}
 use Rattle.machine.specs.declared.Prepared.{Prepared}
 use Rattle.machine.specs.declared.Prepared.the-variants as prepared
 use Rattle.machine.specs.declared.Judged.{Judged}
 use Rattle.machine.specs.declared.Judged.the-variants as judged
 use Rattle.machine.specs.Step.{act, stepBy, step}
-use Rattle.machine.specs.Stream.{after}
 use Rattle.machine.specs.Ledger.{Entry, overlap, unlocked, isAt, inContext, inPartition}
 use Rattle.machine.specs.Frame.{entryIn}
-use Rattle.machine.specs.Frame.{LivesIn, Lives, Removes, invalidated, overlapped, demappedPage, demappedContext, demappedAll, displaced, Spares}
+use Rattle.machine.specs.Frame.{LivesIn, Lives, Removes, invalidated, overlapped, demappedPage, demappedContext, demappedAll, displaced}
 use Rattle.machine.specs.declared.Slot.{Slot}
 use Rattle.machine.specs.declared.Placed.{Placed}
 use Rattle.machine.specs.declared.Placed.the-variants as placement
@@ -46,7 +46,7 @@ use Rattle.machine.specs.declared.Verdict.the-variants.{Passed, Refused}
 use Rattle.machine.proofs.Words.{insertable-sound}
 use Rattle.machine.proofs.Insertion.{count-removed, count-set-used, displacedShare, newShare, count-inserted, PlacedSays, placed-says}
 use Rattle.machine.proofs.Sound.{entry-live, owner-parts, sound-slot}
-use Rattle.machine.proofs.State.{StrandSound, strand-sound, sound-registers, sound-side, passed-asked, insertion-sound, kind-side, step-sound}
+use Rattle.machine.proofs.State.{StrandSound, strand-sound, sound-registers, sound-side, passed-asked, insertion-sound, kind-side}
 use Rattle.machine.proofs.Alike.{hit}
 use Rattle.machine.proofs.Sides.{SameTest, overlap-test, page-test, context-test, partition-test, live-test, sameEntry, entry-self, entry-same}
 
@@ -157,7 +157,7 @@ insertion-partition : (u : State) (strand side flags word : ℕ) → partition (
 unfolding entryOf
 insertion-partition u strand side flags word h = go (flagReal flags) _ _ ∙ mod-eq-of-lt h
   where
-    go : (real : Bool) (context address : ℕ) → keyOwner (keyOf real (partition (u .registers) strand) context address) / 2 ^ 14 ≡ partition (u .registers) strand % 8
+    go : (real : Bool) (context : ℕ) (address : VirtualAddress) → keyOwner (keyOf real (partition (u .registers) strand) context address) / 2 ^ 14 ≡ partition (u .registers) strand % 8
     go true context address = owner-parts _ true 0 .0
     go false context address = owner-parts _ false context .0
 
@@ -174,7 +174,7 @@ module _ (n : Counts) (u : State) (side : ℕ) (e : Entry) (h : sound n u ≡ tr
       (λ q. rw q (⊎-elim inl (λ g. inr (r q g)) (removed-frame (sideOf u side) e l (sound-side n u h side .1) t)))
 
   -- an insertion that passed
-  insert-frame : (strand flags word : ℕ) → strand < 4 → inRange (tagAddress (tagAccess (u .registers) strand side)) ≡ true → wordInsertable word ≡ true
+  insert-frame : (strand flags word : ℕ) → strand < 4 → inRange (tagAddress (tagAccess (u .registers) strand side) .0) ≡ true → wordInsertable word ≡ true
       → LivesIn (inserted candidate (insertion u strand side flags word) (sideOf u side)) e ⊎ Removes u side e (command.Insert strand side flags word)
   unfolding overlap
   insert-frame strand flags word s a w =
@@ -190,17 +190,17 @@ module _ (n : Counts) (u : State) (side : ℕ) (e : Entry) (h : sound n u ≡ tr
   judged-frame v a (judged.Faulted t) g = g
   judged-frame v a (judged.Translated p) g = g
 
-  found-frame : (a : Access) (f : Found) → Lives (settleFound u a f .state) side e
-  found-frame a Nothing = l
-  found-frame a (At i) =
-      let k : ℕ = kindSide (a .kind) in
+  found-frame : (a : Access) (f : Found) → a .side < 2 → Lives (settleFound u a f .state) side e
+  found-frame a Nothing d = l
+  found-frame a (At i) d =
+      let k : ℕ = a .side in
       judged-frame (withSide u k (setUsed i (sideOf u k))) a (judge (u .registers) a (getD (sideOf u k) i noSlot .word))
-      (with-side (λ s. LivesIn s e) u (setUsed i (sideOf u k)) k side (kind-side (a .kind)) b l (λ q. rw q (used-frame (sideOf u side) e l i)))
+      (with-side (λ s. LivesIn s e) u (setUsed i (sideOf u k)) k side d b l (λ q. rw q (used-frame (sideOf u side) e l i)))
 
-  settled-frame : (a : Access) (p : Prepared) → Lives (settle u a p .state) side e
-  settled-frame a (prepared.Stopped t tag) = l
-  settled-frame a (prepared.Bypass p) = l
-  settled-frame a (prepared.Lookup key) = found-frame a (first (answersTo key) (sideOf u (kindSide (a .kind))))
+  settled-frame : (a : Access) (p : Prepared) → a .side < 2 → Lives (settle u a p .state) side e
+  settled-frame a (prepared.Stopped t tag) d = l
+  settled-frame a (prepared.Bypass p) d = l
+  settled-frame a (prepared.Lookup key) d = found-frame a (first (answersTo key) (sideOf u (a .side))) d
 
   -- every command that no question refused
   act-frame : (c : Command) → verdict u c ≡ Passed → Lives (act u c .state) side e ⊎ Removes u side e c
@@ -210,7 +210,7 @@ module _ (n : Counts) (u : State) (side : ℕ) (e : Entry) (h : sound n u ≡ tr
       let q = passed-asked u (command.Insert strand other flags word) v in
       let s : strand < 4 = search conj in
       let o : other < 2 = search conj in
-      let a : inRange (tagAddress (tagAccess (u .registers) strand other)) ≡ true = search conj in
+      let a : inRange (tagAddress (tagAccess (u .registers) strand other) .0) ≡ true = search conj in
       let w : wordInsertable word ≡ true = search conj in
       with-side (λ t. LivesIn t e ⊎ Removes u side e (command.Insert strand other flags word)) u _ other side o b (inl l)
       (λ f. rw f (insert-frame strand flags word s (rw f at a) w))
@@ -232,8 +232,8 @@ module _ (n : Counts) (u : State) (side : ℕ) (e : Entry) (h : sound n u ≡ tr
       let q = passed-asked u (command.Invalidate other) v in
       demap-frame other (search conj) live-test (λ f t. rw f invalidated)
   act-frame (command.Access strand kind selector size address) v =
-      let a : Access = record { strand = strand; kind = kind; selector = selector; size = size; used = addressUsed (u .registers) strand address } in
-      inl (settled-frame a (prepare (u .registers) a))
+      let a : Access = accessOf (u .registers) strand kind selector size address in
+      inl (settled-frame a (prepare (u .registers) a) (kind-side kind))
   act-frame (command.Read strand number) v = inl l
   act-frame (command.Pointers strand other) v = inl l
 
@@ -247,11 +247,3 @@ frame n u c side e h b l = go (verdict u c) refl
     go : (v : Verdict) → verdict u c ≡ v → Lives (stepBy v u c .state) side e ⊎ ((verdict u c ≡ Passed) × Removes u side e c)
     go Passed v = ⊎-elim inl (λ r. inr (v, r)) (act-frame n u side e h b l c v)
     go (Refused r) v = inl l
-
--- an entry that no command of a list takes lives after all of them
-pub frame-after : (n : Counts) (u : State) (cs : List Command) (side : ℕ) (e : Entry) → sound n u ≡ true → side < 2 → Lives u side e → Spares u side e cs
-    → Lives (after u cs) side e
-unfolding after
-frame-after n u [] side e h b l k = l
-frame-after n u (c ∷ cs) side e h b l (k, ks) =
-    ⊎-elim (λ g. frame-after n (step u c .state) cs side e (step-sound n u c h) b g ks) (λ r. absurd (k r)) (frame n u c side e h b l)

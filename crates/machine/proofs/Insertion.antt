@@ -13,7 +13,7 @@ use borrow.Author.Tests.{eq-eqb, eqb-true, leb-true, leb-false, not-true}
 use Rattle.laws.specs.Tests.{tick, count, anyOf, pairwise, first}
 use Rattle.laws.specs.declared.Found.{Found}
 use Rattle.laws.specs.declared.Found.the-variants.{At, Nothing}
-use Rattle.laws.proofs.Bools.{by-test, both-ways, clash, and-left, and-right, and-no, or-left, or-right, or-other, or-comm}
+use Rattle.laws.proofs.Bools.{by-test, both-ways, clash, and-left, and-right, or-left, or-right, or-other, or-comm}
 use Rattle.laws.proofs.Counts.{count-set, count-map, count-same, count-one}
 use Rattle.laws.proofs.Walks.{any-at, found-at, found-none}
 use Rattle.machine.specs.Pages.{pageShift, pageStart}
@@ -50,11 +50,6 @@ overlaps-turn x y h =
 pub overlaps-sym : (x y : Slot) → overlaps x y ≡ overlaps y x
 overlaps-sym x y = both-ways _ _ (overlaps-turn x y) (overlaps-turn y x)
 
--- a live entry at a page start overlaps itself
-pub overlaps-self : (x : Slot) → isLive x ≡ true → pageStart (sizeCode x) (x .page) ≡ x .page → overlaps x x ≡ true
-unfolding overlaps
-overlaps-self x l p = rw (l, eq-eqb (x .owner) (x .owner) refl, eq-eqb (pageStart (sizeCode x) (x .page)) (x .page) p)
-
 -- of two pages that hold one address, the larger holds the start of the other
 larger : (x y : Slot) (a : ℕ) → pageShift (sizeCode x) ≤ pageShift (sizeCode y) → holds x a ≡ true → holds y a ≡ true → holds y (x .page) ≡ true
 larger x y a h hx hy =
@@ -84,11 +79,6 @@ pub one-answers : (key : Key) (s : List Slot) → pairwise overlaps s ≡ true �
 one-answers key s h = count-one overlaps (answersTo key) s (answers-overlap key) h
 
 -- ---- removal
--- where a test excludes another, to deny the other asks nothing more
-passed-by : (a b : Bool) → (a ≡ true → b ≡ false) → (not b && a) ≡ a
-passed-by true b h = rw (h refl)
-passed-by false b h = and-no (not b)
-
 module _ (q : Slot → Bool) where
   pub length-removed : (s : List Slot) → length (removed q s) ≡ length s
   length-removed s = length-map s (emptiedBy q)
@@ -96,10 +86,6 @@ module _ (q : Slot → Bool) where
   -- what a test of entries still finds: the entries that it finds and that were not taken
   pub count-removed : (p : Slot → Bool) → p noSlot ≡ false → (s : List Slot) → count p (removed q s) ≡ count (λ x. not (q x) && p x) s
   count-removed p z s = count-map p (emptiedBy q) s ∙ count-same _ _ s (λ x. by-test (q x) (λ e. rw e z) (λ e. rw e))
-
-  -- a removal spares what its test passes by
-  pub removed-spares : (p : Slot → Bool) → p noSlot ≡ false → ((x : Slot) → p x ≡ true → q x ≡ false) → (s : List Slot) → count p (removed q s) ≡ count p s
-  removed-spares p z h s = count-removed p z s ∙ count-same _ p s (λ x. passed-by (p x) (q x) (h x))
 
   pub removed-none : (s : List Slot) → anyOf q s ≡ false → removed q s ≡ s
   unfolding anyOf
@@ -289,17 +275,3 @@ module _ (p : Slot → Bool) (lives : (x : Slot) → isEmpty x ≡ true → p x 
   count-inserted s =
       let kept : List Slot = removed (overlaps new) s in
       omega (arith, count-stored kept (choice cand kept) (choice-says cand kept), count-removed (overlaps new) p (lives noSlot refl) s)
-
-  -- an insertion spares what neither overlaps the new entry nor is a candidate
-  pub inserted-spares : ((x : Slot) → p x ≡ true → overlaps new x ≡ false) → ((x : Slot) → p x ≡ true → cand x ≡ false) → (s : List Slot) → count p s ≤ count p (inserted cand new s)
-  inserted-spares ho hc s = omega (
-    arith,
-    count-inserted s,
-    count-same _ p s (λ x. passed-by (p x) (overlaps new x) (ho x)),
-    none-goes (placed cand new s) (placed-says cand new s),
-  )
-    where
-      none-goes : (r : Placed) → PlacedSays cand new s r → displacedShare p r ≡ 0
-      none-goes Done h = refl
-      none-goes (Displaced d) h = by-test (p d) (λ e. clash (h .allowed) (hc d e)) (λ e. ap tick e)
-      none-goes Refused h = refl

@@ -15,6 +15,7 @@ pub mod Looks
 pub mod Places
 pub mod Examples
 pub mod Printed
+pub mod Views
 pub mod Commands
 pub mod Demand3
 pub mod Good

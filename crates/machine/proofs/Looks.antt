@@ -40,9 +40,17 @@ use Rattle.machine.proofs.State.{allowed-any, strand-sound, kind-side}
 
 ruleset conj = (and-left, and-right, eqb-true, ltb-true)
 
--- the same operands in the ledger's words
-abbrev pub askedOf : Access → Asked
-askedOf a = record { strand = a .strand; kind = a .kind; selector = a .selector; size = a .size; used = a .used .0 }
+-- the unit's access of the ledger's operands
+abbrev pub accessFor : List ℕ → Asked → Access
+accessFor file q = record {
+  strand = q .strand;
+  kind = q .kind;
+  side = kindSide (q .kind);
+  selector = q .selector;
+  size = q .size;
+  context = selected file (q .strand) (q .selector);
+  used = record { 0 = q .used };
+}
 
 -- a step of the unit and one of the ledger: the same 24 bytes, and alike after it
 pub record StepAlike (n : Counts) (r : Stepped) (w : Written) : Type 0 where
@@ -51,8 +59,8 @@ pub record StepAlike (n : Counts) (r : Stepped) (w : Written) : Type 0 where
 
 -- ---- the small agreements
 -- where a page of a sound word lies, and the offset in it
-pub physical-alike : (word used : ℕ) → wordSound word ≡ true → (let address : ℕ = word / 2 ^ 13 % 2 ^ 43 * 2 ^ 13 in
-    physicalAt word used .0 ≡ address - address % pageBytes word + used % pageBytes word)
+pub physical-alike : (word : ℕ) (used : VirtualAddress) → wordSound word ≡ true → (let address : ℕ = word / 2 ^ 13 % 2 ^ 43 * 2 ^ 13 in
+    physicalAt word used .0 ≡ address - address % pageBytes word + used .0 % pageBytes word)
 unfolding wordSound frame physicalAt
 physical-alike word used h =
     let l : listed (word % 2 ^ 4) ≡ true = search conj in
@@ -163,7 +171,7 @@ mode-below m h = by-test (eqb m 2)
     (λ e. rw e (le-ltb m 2 (omega (arith, eqb-true m 2 e))))
     (λ e. rw e (lt-ltb m 2 (omega (arith, eqb-false m 2 e))))
 
--- the address used: `rw (← (used-alike ..))` makes the ledger's operands `askedOf` of the unit's
+-- the address used: `rw (← (used-alike ..))` makes the unit's access `accessFor` the ledger's operands
 pub used-alike : {n : Counts} {u : State} {l : Ledger} → Alike n u l → (strand : ℕ) (address : VirtualAddress) → strand < 4
     → addressUsed (u .registers) strand address .0 ≡ usedAddress l strand (address .0)
 used-alike {u} k strand address s =
@@ -202,8 +210,11 @@ unfolding firstFit
 fit-ind P [] last h p = p
 fit-ind P (q ∷ ss) last h p = by-test (q .0) (λ e. rw e (h .0)) (λ e. rw e (fit-ind P ss last (h .1) p))
 
-module _ {n : Counts} {u : State} {l : Ledger} (k : Alike n u l) (a : Access) (s : a .strand < 4) (c : a .selector < 3) where
-  pub translates-alike : translates (u .registers) (a .strand) (kindSide (a .kind)) ≡ translationOn l (askedOf a)
+module _ {n : Counts} {u : State} {l : Ledger} (k : Alike n u l) (q : Asked) (s : q .strand < 4) (c : q .selector < 3) where
+  abbrev a : Access
+  a = accessFor (u .registers) q
+
+  pub translates-alike : translates (u .registers) (a .strand) (kindSide (a .kind)) ≡ translationOn l q
   translates-alike = rw (k .registers (a .strand) 4 s (omega arith))
 
   pub selected-alike : selected (u .registers) (a .strand) (a .selector) ≡ contextPicked l (a .strand) (a .selector)
@@ -211,7 +222,7 @@ module _ {n : Counts} {u : State} {l : Ledger} (k : Alike n u l) (a : Access) (s
 
   -- what the lookup asks for is what the ledger's test takes
   pub key-alike : lookupKey (u .registers) a
-      ≡ keyOf (not (translationOn l (askedOf a))) (l .registers (a .strand) 0) (contextPicked l (a .strand) (a .selector)) (a .used .0)
+      ≡ keyOf (not (translationOn l q)) (l .registers (a .strand) 0) (contextPicked l (a .strand) (a .selector)) (a .used)
   key-alike = rw (translates-alike, selected-alike, k .registers (a .strand) 0 s (omega arith))
 
   pub key-small : (l .registers (a .strand) 0 < 8) × (contextPicked l (a .strand) (a .selector) < 8192)
@@ -236,21 +247,21 @@ module _ {n : Counts} {u : State} {l : Ledger} (k : Alike n u l) (a : Access) (s
       let side = kind-side (a .kind) in
       rw (← e, j .registers (a .strand) (20 + kindSide (a .kind)) s (omega arith)) (line-answer 2 (a .used .0) _ (number-small t) h (omega arith))
 
-  pub trap-alike : (t : Trap) (tag : Tag) → trapFault t < 256 → StepAlike n (trapTo u a t tag) (trapOf l (askedOf a) (trapNumber t) (trapFault t) tag)
+  pub trap-alike : (t : Trap) (tag : Tag) → trapFault t < 256 → StepAlike n (trapTo u a t tag) (trapOf l q (trapNumber t) (trapFault t) tag)
   unfolding trapRegisters
   trap-alike t tag h = by-tag tag
     where
       side : ℕ
       side = kindSide (a .kind)
 
-      faulted-alike : Alike n (trapTo u a t effect.Kept .state) (faults l (askedOf a) (trapNumber t) (trapFault t))
+      faulted-alike : Alike n (trapTo u a t effect.Kept .state) (faults l q (trapNumber t) (trapFault t))
       faulted-alike = trap-written (trap-written k 2 _ (omega arith)) 4 _ (omega arith)
 
       -- register 20 is neither 22 nor 24
       other : (r : ℕ) → 20 < r → (eqb (a .strand) (a .strand) && eqb (20 + side) (r + side)) ≡ false
       other r g = rw (ne-eqb (20 + side) (r + side) (λ e. omega arith)) (and-false (eqb (a .strand) (a .strand)))
 
-      by-tag : (tag : Tag) → StepAlike n (trapTo u a t tag) (trapOf l (askedOf a) (trapNumber t) (trapFault t) tag)
+      by-tag : (tag : Tag) → StepAlike n (trapTo u a t tag) (trapOf l q (trapNumber t) (trapFault t) tag)
       by-tag effect.Kept = record {
         bytes = trap-told t effect.Kept _ _ h faulted-alike (rw (other 24 (omega arith), other 22 (omega arith)));
         alike = faulted-alike;
@@ -264,7 +275,7 @@ module _ {n : Counts} {u : State} {l : Ledger} (k : Alike n u l) (a : Access) (s
 
   -- with tag access written by the selected context, or 0 where translation is off
   pub tagged-alike : (t : Trap) {number type : ℕ} → trapNumber t ≡ number → trapFault t ≡ type → type < 256
-      → StepAlike n (trapTo u a t (trapTag (u .registers) a)) (taggedTrap l (askedOf a) number type)
+      → StepAlike n (trapTo u a t (trapTag (u .registers) a)) (taggedTrap l q number type)
   unfolding taggedTrap
   tagged-alike t e f h = rw (← e, ← f, ← translates-alike, ← selected-alike) (trap-alike t (trapTag (u .registers) a) (rw f h))
 
@@ -277,7 +288,7 @@ module _ {n : Counts} {u : State} {l : Ledger} (k : Alike n u l) (a : Access) (s
   early-next false p e z j (looks q none) = rw e (looks q none)
   early-next false p e z j (ends any y f) = rw e (ends any y f)
 
-  pub prepare-alike : Early n u a (prepare (u .registers) a) (earlySteps l (askedOf a))
+  pub prepare-alike : Early n u a (prepare (u .registers) a) (earlySteps l q)
   unfolding prepare earlySteps anyOf
   prepare-alike =
       let m : l .registers (a .strand) 3 ≡ mode (u .registers) (a .strand) = k .registers (a .strand) 3 s (omega arith) in
@@ -294,15 +305,15 @@ module _ {n : Counts} {u : State} {l : Ledger} (k : Alike n u l) (a : Access) (s
 
   -- an access is as its lookup is
   pub access-alike : (last : Written) → StepAlike n (settle u a (prepared.Lookup (lookupKey (u .registers) a))) last
-      → StepAlike n (accessTo u a) (firstFit (earlySteps l (askedOf a)) last)
+      → StepAlike n (accessTo u a) (firstFit (earlySteps l q) last)
   access-alike last j = go prepare-alike
     where
-      go : Early n u a (prepare (u .registers) a) (earlySteps l (askedOf a)) → StepAlike n (accessTo u a) (firstFit (earlySteps l (askedOf a)) last)
-      go (looks p none) = rw (p, fit-none (earlySteps l (askedOf a)) last none) j
+      go : Early n u a (prepare (u .registers) a) (earlySteps l q) → StepAlike n (accessTo u a) (firstFit (earlySteps l q) last)
+      go (looks p none) = rw (p, fit-none (earlySteps l q) last none) j
       go (ends any z f) = f last
 
   -- ---- after it
-  pub miss-alike : StepAlike n (settleFound u a Nothing) (misses l (askedOf a))
+  pub miss-alike : StepAlike n (settleFound u a Nothing) (misses l q)
   unfolding misses
   miss-alike =
       let m = miss-trap (translates (u .registers) (a .strand) (kindSide (a .kind))) (eqb (a .kind) 0) in
@@ -310,7 +321,7 @@ module _ {n : Counts} {u : State} {l : Ledger} (k : Alike n u l) (a : Access) (s
 
   -- what the word of a found entry says
   pub hit-alike : (e : Entry) {word : ℕ} → e .word ≡ word → wordSound word ≡ true
-      → StepAlike n (settleJudged u a (judge (u .registers) a word)) (hits l (askedOf a) e)
+      → StepAlike n (settleJudged u a (judge (u .registers) a word)) (hits l q e)
   unfolding judge hits firstFit
   hit-alike e {word} w h =
       let fault : ℕ = faultType (mode (u .registers) (a .strand)) (a .kind) word in
@@ -325,7 +336,7 @@ module _ {n : Counts} {u : State} {l : Ledger} (k : Alike n u l) (a : Access) (s
       (λ t. rw t (tagged-alike (exception (a .kind) fault) (exception-number (a .kind) fault) (exception-fault (a .kind) fault) (fault-small _ (a .kind) word)))
       (λ t. by-test refused
       (λ f. rw (t, f) (tagged-alike trap.DataProtection refl refl (omega arith)))
-      (λ f. rw (t, f, ← (physical-alike word (a .used .0) h)) (record { bytes = physical-told _ (omega arith); alike = k }))))
+      (λ f. rw (t, f, ← (physical-alike word (a .used) h)) (record { bytes = physical-told _ (omega arith); alike = k }))))
 
 -- ---- a miss is no hit
 -- the trap numbers of a miss lie from 0x3E to 0x68, and no hit's first field does

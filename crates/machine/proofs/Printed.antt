@@ -10,10 +10,11 @@ use Rattle.machine.specs.Registers.{known, writable, baseAllowed, config
 use Rattle.machine.specs.State.{stateOf, encode, reset, sideFits, sound, wordsSound}
 use Rattle.machine.specs.Questions.{asked, ask, verdict}
 use Rattle.machine.specs.Access.{prepare, faultType, judge, trapRegisters}
-use Rattle.machine.specs.Step.{tsbOffset, tsbPointer, act, step}
+use Rattle.machine.specs.Step.{act, step}
+use Rattle.machine.specs.Tsb.{tsbOffset, tsbPointer}
 use Rattle.machine.specs.Examples.{given, printed, PrintedRun}
-use Rattle.machine.specs.Stream.{eight, decodeAt, answerBytes, takes, after, answersBytes, finish, runOf}
+use Rattle.machine.specs.Stream.{eight, widthOf, commandAt, decodeAt, answerBytes, takes, after, answersBytes, finish, runOf}
 
 pub printed-run : PrintedRun
-unfolding PrintedRun given printed allBelow count anyOf allOf pairwise firstFrom inRange listed pageShift wordSound wordInsertable frame physicalAt slotsOf wordsOf answersTo overlaps removes entryOf wants choice inserted placed hasSlot ownerSound pageSound liveSound emptySound slotSound sideSound known writable baseAllowed configurationAllowed allowed registersSound resetStrands stateOf encode reset sideFits sound wordsSound asked ask verdict prepare faultType judge trapRegisters tsbOffset tsbPointer act step eight decodeAt answerBytes takes after answersBytes finish runOf
+unfolding PrintedRun given printed allBelow count anyOf allOf pairwise firstFrom inRange listed pageShift wordSound wordInsertable frame physicalAt slotsOf wordsOf answersTo overlaps removes entryOf wants choice inserted placed hasSlot ownerSound pageSound liveSound emptySound slotSound sideSound known writable baseAllowed configurationAllowed allowed registersSound resetStrands stateOf encode reset sideFits sound wordsSound asked ask verdict prepare faultType judge trapRegisters tsbOffset tsbPointer act step eight widthOf commandAt decodeAt answerBytes takes after answersBytes finish runOf
 printed-run = (refl, refl, refl, refl)

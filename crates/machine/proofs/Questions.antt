@@ -19,10 +19,14 @@ use Rattle.machine.specs.Insertion.{entryOf, candidate, hasSlot}
 use Rattle.machine.specs.Registers.{register, withRegister, partition, selected, tagAccess, tagAddress, tagContext, baseNumber, configurationNumber, known, writable, baseAllowed, configurationAllowed, allowed, resetRegisters, resetStrands}
 use Rattle.machine.specs.State.{Counts, State, sideOf, withRegisters, reset}
 use Rattle.machine.specs.Questions.{Question, question, refusalNumber, flagReal, flagLocked, keyOf, insertion, kindSide, selectorFits, nucleusFetch, sizeFits, asked, ask, verdict}
-use Rattle.machine.specs.Step.{tsbOffset, tsbPointer, pointer, act}
+use Rattle.machine.specs.Step.{act}
+use Rattle.machine.specs.Tsb.{tsbOffset, tsbPointer, pointer}
 use Rattle.machine.specs.Stream.{answerBytes}
 use Rattle.machine.specs.Ledger.{Ledger, start, writes, codeBytes, pageBytes, codeListed, addressGood, wordGood, registerKnown, registerWritable, valueGood, contextPicked, tagOf, line, newEntry, firstNo, selectorGood, questions, pointerOf, pointers}
 use Rattle.machine.specs.Frame.{entryIn}
+use Rattle.machine.specs.Views.{View, view}
+use Rattle.machine.specs.Views as views
+use Rattle.machine.specs.declared.VirtualAddress.{VirtualAddress}
 use Rattle.machine.specs.declared.Command.{Command}
 use Rattle.machine.specs.declared.Command.the-variants as command
 use Rattle.machine.specs.declared.Refusal.{Refusal}
@@ -220,7 +224,7 @@ module _ {n : Counts} {u : State} {l : Ledger} (a : Alike n u l) (strand : ℕ) 
   pub tag-access : (side : ℕ) → side < 2 → tagOf l strand side ≡ tagAccess (u .registers) strand side
   tag-access side h = a .registers strand (20 + side) s (omega arith)
 
-  pub tag-address : (side : ℕ) → side < 2 → tagOf l strand side - tagOf l strand side % 8192 ≡ tagAddress (tagAccess (u .registers) strand side)
+  pub tag-address : (side : ℕ) → side < 2 → tagOf l strand side - tagOf l strand side % 8192 ≡ tagAddress (tagAccess (u .registers) strand side) .0
   tag-address side h = rw (tag-access side h) (round-down (tagAccess (u .registers) strand side) 8192)
 
 -- ---- first refusals
@@ -289,16 +293,13 @@ first-no (next {r} {b} e k) =
     rw e (by-test b (λ t. rw t (first-no (k t))) (λ t. rw (t, ne-eqb (refusalNumber r) 0 (refusal-positive r))))
 
 -- whether a slot is to be had: number 13, which is asked of an insertion alone, and last
+abbrev pub leftFor : State → View → Bool
+leftFor u (views.insertion strand side flags word) = hasSlot candidate (insertion u strand side flags word) (sideOf u side)
+leftFor u (views.access strand kind selector size address) = true
+leftFor u views.other = true
+
 abbrev pub slotLeft : State → Command → Bool
-slotLeft u (command.Write strand number value) = true
-slotLeft u (command.Insert strand side flags word) = hasSlot candidate (insertion u strand side flags word) (sideOf u side)
-slotLeft u (command.DemapPage strand side selector flags address) = true
-slotLeft u (command.DemapContext strand side selector) = true
-slotLeft u (command.DemapAll strand side) = true
-slotLeft u (command.Invalidate side) = true
-slotLeft u (command.Access strand kind selector size address) = true
-slotLeft u (command.Read strand number) = true
-slotLeft u (command.Pointers strand side) = true
+slotLeft u c = leftFor u (view c)
 
 -- pointers of a listed size
 pointer-of : (base code address : ℕ) → listed code ≡ true → tsbPointer base code address ≡ pointerOf base code address
@@ -316,7 +317,7 @@ module _ {n : Counts} {u : State} {l : Ledger} (a : Alike n u l) where
       next (word-insertable word) (λ _. slot)))))
   in-step (command.DemapPage strand side selector flags address) =
       next (at-most strand 3) (λ s. next (at-most side 1) (λ d. next (selector-good side selector) (λ _.
-      next (at-most flags 1) (λ _. next (address-good address) (λ _. done refl)))))
+      next (at-most flags 1) (λ _. next (address-good (address .0)) (λ _. done refl)))))
   in-step (command.DemapContext strand side selector) =
       next (at-most strand 3) (λ s. next (at-most side 1) (λ d. next (selector-good side selector) (λ _. done refl)))
   in-step (command.DemapAll strand side) = next (at-most strand 3) (λ s. next (at-most side 1) (λ _. done refl))
@@ -376,7 +377,7 @@ module _ {n : Counts} {u : State} {l : Ledger} (a : Alike n u l) where
       let context = tagContext (tagOf l strand side) in
       pointer (u .registers) strand side size
       ≡ pointerOf (l .registers strand (baseNumber side context size)) (bits (8 * size) 3 (l .registers strand (configurationNumber side context)))
-      (tagAddress (tagOf l strand side))
+      (tagAddress (tagOf l strand side) .0)
   pointer-alike strand side size s d z =
       let context : ℕ = tagContext (tagAccess (u .registers) strand side) in
       let o : kindSide context < 2 = kind-side context in
@@ -427,9 +428,9 @@ flag-locked : (flags : ℕ) → flags < 4 → leb 2 flags ≡ flagLocked flags
 flag-locked flags h = both-ways (leb 2 flags) (flagLocked flags) (λ e. omega tests) (λ e. omega tests)
 
 -- what stands in a new slot
-entry-in : (real : Bool) (p c address : ℕ) (locked : Bool) (word : ℕ) → p < 8 → c < 8192
+entry-in : (real : Bool) (p c : ℕ) (address : VirtualAddress) (locked : Bool) (word : ℕ) → p < 8 → c < 8192
     → entryIn (entryOf (keyOf real p c address) locked word)
-    ≡ record { partition = p; real = real; context = cond real 0 c; page = pageStart (word % 2 ^ 4) address; locked = locked; word = word }
+    ≡ record { partition = p; real = real; context = cond real 0 c; page = pageStart (word % 2 ^ 4) (address .0); locked = locked; word = word }
 unfolding entryOf
 entry-in true p c address locked word h k =
     let o = owner-parts p true 0 in
@@ -446,4 +447,4 @@ insertion-entry {u} {l} a strand side flags word s d f h =
     let tag : ℕ = tagAccess (u .registers) strand side in
     entry-in (flagReal flags) (partition (u .registers) strand) (tagContext tag) (tagAddress tag) (flagLocked flags) word
     (strand-sound (u .registers) strand (a .allowed) s .partitions) (omega arith)
-    ∙ rw (tag-address a strand s side d, tag-access a strand s side d, a .registers strand 0 s (omega arith), page-bytes word h, round-down (tagAddress tag) (pageSize (word % 2 ^ 4)), flag-locked flags f)
+    ∙ rw (tag-address a strand s side d, tag-access a strand s side d, a .registers strand 0 s (omega arith), page-bytes word h, round-down (tagAddress tag .0) (pageSize (word % 2 ^ 4)), flag-locked flags f)

@@ -112,7 +112,7 @@ module _ (s : List ℕ) (bytes : (i : ℕ) → getD s i 0 < 256) where
       let u : at 0 ≤ 9 = ltb-false 9 (at 0) (or-right (ltb (at 0) 1) _ k) in
       is 1 (ltb-false (at 0) 1 (or-left (ltb (at 0) 1) _ k)) (λ e. (command.Write (at 1) (at 2) (eight 3 .0), 11, eight 3 .1, rw (eight 3 .2, e)))
       (λ l. is 2 l (λ e. (command.Insert (at 1) (at 2) (at 3) (eight 4 .0), 12, eight 4 .1, rw (eight 4 .2, e)))
-      (λ l. is 3 l (λ e. (command.DemapPage (at 1) (at 2) (at 3) (at 4) (eight 5 .0), 13, eight 5 .1, rw (eight 5 .2, e)))
+      (λ l. is 3 l (λ e. (command.DemapPage (at 1) (at 2) (at 3) (at 4) (record { 0 = eight 5 .0 }), 13, eight 5 .1, rw (eight 5 .2, e)))
       (λ l. is 4 l (λ e. (command.DemapContext (at 1) (at 2) (at 3), 4, refl, rw e))
       (λ l. is 5 l (λ e. (command.DemapAll (at 1) (at 2), 3, refl, rw e))
       (λ l. is 6 l (λ e. (command.Invalidate (at 1), 2, refl, rw e))

@@ -1,12 +1,12 @@
 -- Laws of a run: what it takes of its bytes and why it ends, what it leaves, and the run turn by turn. They hold of any state.
 -- Assumes nothing.
 use Prim.Native.Nat.{ℕ, zero, suc, _+_, _*_, _-_, _≤_, _<_}
-use mathlib.Core.Path.{_≡_, refl, ap, _∙_}
+use mathlib.Core.Path.{_≡_, refl, ap, subst, _∙_}
 use mathlib.Core.Bool.{Bool, true, false, cond}
 use mathlib.Core.List.{List, _++_}
 use native.Mathlib.Nat.{zero-add, add-zero}
 use native.Mathlib.Omega.{arith}
-use borrow.Author.Tests.{ltb-true, ltb-false, lt-ltb, le-ltb}
+use borrow.Author.Tests.{eqb-false, ltb-true, ltb-false, lt-ltb, le-ltb}
 use lib.Dec.{T, eqb, leb, ltb, lit≤}
 use lib.ListN.{length, take, drop}
 use lib.Seq.{sets, length-sets}
@@ -14,37 +14,43 @@ use Rattle.laws.proofs.Bools.{by-test}
 use Rattle.laws.proofs.Stores.{sets-append, take-sets, drop-sets}
 use Rattle.machine.specs.State.{Counts, State, stateOf, encode, wordsSound}
 use Rattle.machine.specs.Step.{step}
-use Rattle.machine.specs.Stream.{Bytes, Taken, Outcome, byte, whole, decodeAt, answerBytes, ended, more, takesOne, takes, takenOf, after, answersBytes, finish, runOf}
+use Rattle.machine.specs.Stream.{Bytes, Taken, Outcome, byte, widthOf, decodeAt, answerBytes, ended, more, takesOne, takes, takenOf, after, answersBytes, finish, runOf}
 use Rattle.machine.specs.declared.Command.{Command}
 use Rattle.machine.specs.declared.Decoded.{Decoded}
 use Rattle.machine.specs.declared.Decoded.the-variants.{Known, Stop}
 use Rattle.machine.proofs.Bytes.{answer-length, answers-length}
 
 -- ---- what is decoded
--- a command has two bytes at least and lies within the input
-unfoldable Within : Bytes → ℕ → Decoded → Type 0
-Within s at (Known c width) = (2 ≤ width) × (at + width ≤ length s)
-Within s at (Stop k) = Unit {0}
+-- a command has two bytes at least: none of the widths is 1
+pub two-or-none : (b : ℕ) → (widthOf b ≡ 0 → ⊥) → 2 ≤ widthOf b
+unfolding widthOf
+two-or-none b =
+    arm (eqb b 1) 11 tt (arm (eqb b 2) 12 tt (arm (eqb b 3) 13 tt (arm (eqb b 4) 4 tt (arm (eqb b 5) 3 tt
+    (arm (eqb b 6) 2 tt (arm (eqb b 7) 13 tt (arm (eqb b 8) 3 tt (arm (eqb b 9) 3 tt (λ h. absurd (h refl))))))))))
+  where
+    arm : (b : Bool) (width : ℕ) {other : ℕ} → T (leb 2 width) → ((other ≡ 0 → ⊥) → 2 ≤ other)
+        → (cond b width other ≡ 0 → ⊥) → 2 ≤ cond b width other
+    arm true width h o n = lit≤ h
+    arm false width h o n = o n
 
-module _ (s : Bytes) (at : ℕ) where
-  -- one command byte of the decoder
-  arm : (b : Bool) (width : ℕ) (c : Command) (others : Decoded) → T (leb 2 width) → Within s at others → Within s at (cond b (whole s at width c) others)
-  unfolding Within
-  arm false width c others h o = o
-  arm true width c others h o = by-test (ltb (length s - at) width)
-      (λ e. rw e tt)
-      (λ e. let f : (2 ≤ width) × (width ≤ length s - at) = (lit≤ h, ltb-false _ _ e) in rw e (f .0, omega arith))
+-- .. and lies within the input
+abbrev Inside : Bytes → ℕ → Decoded → Type 0
+Inside s at (Known c width) = (2 ≤ width) × (at + width ≤ length s)
+Inside s at (Stop k) = Unit {0}
 
-  decode-within : Within s at (decodeAt s at)
-  unfolding decodeAt Within
-  decode-within =
-      let is : ℕ → Bool = eqb (byte s at) in
-      arm (is 1) 11 _ _ tt (arm (is 2) 12 _ _ tt (arm (is 3) 13 _ _ tt (arm (is 4) 4 _ _ tt (arm (is 5) 3 _ _ tt
-      (arm (is 6) 2 _ _ tt (arm (is 7) 13 _ _ tt (arm (is 8) 3 _ _ tt (arm (is 9) 3 _ _ tt tt))))))))
+inside : (s : Bytes) (at : ℕ) → Inside s at (decodeAt s at)
+unfolding decodeAt
+inside s at =
+    let w : ℕ = widthOf (byte s at) in
+    by-test (eqb w 0) (λ e. rw e tt) (λ e. by-test (ltb (length s - at) w)
+    (λ f. rw (e, f) tt)
+    (λ f.
+    let two : 2 ≤ w = two-or-none (byte s at) (eqb-false w 0 e) in
+    let h : w ≤ length s - at = ltb-false _ _ f in
+    rw (e, f) (two, omega arith)))
 
-  pub decode-width : {c : Command} {width : ℕ} → decodeAt s at ≡ Known c width → (2 ≤ width) × (at + width ≤ length s)
-  unfolding Within
-  decode-width e = rw e at decode-within
+pub decode-width : (s : Bytes) (at : ℕ) {c : Command} {width : ℕ} → decodeAt s at ≡ Known c width → (2 ≤ width) × (at + width ≤ length s)
+decode-width s at e = subst (Inside s at) e (inside s at)
 
 -- ---- what a run takes
 -- from a position, with room left: `takes` where its turns are enough

@@ -18,7 +18,7 @@ use Rattle.laws.proofs.Bools.{by-test, clash, both-ways, and-both, and-left, an
 use Rattle.laws.proofs.Counts.{count-append, count-passing, count-none, count-all, count-rest, count-at, count-one, count-le, none-count}
 use Rattle.laws.proofs.Walks.{found-at, found-none}
 use Rattle.laws.proofs.Finds.{count-index, find-zero, find-only, removed-once, count-where, zero-none, without-none, how-many}
-use Rattle.machine.specs.Pages.{listed, pageShift, pageSize, pageStart}
+use Rattle.machine.specs.Pages.{listed, pageShift, pageSize, pageStart, untranslated}
 use Rattle.machine.specs.Words.{wordSound}
 use Rattle.machine.specs.Slots.{noSlot, isLive, sizeCode, partitionOf, isReal, contextOf, holds, answersTo, withUsed, withoutUsed, setUsed}
 use Rattle.machine.specs.Insertion.{overlaps, removed, removes, isEmpty, candidate, inserted, placed, hasSlot}
@@ -27,6 +27,7 @@ use Rattle.machine.specs.Questions.{keyOf}
 use Rattle.machine.specs.Ledger.{Entry, Ledger, Name, codeBytes, pageBytes, reaches, overlap, unlocked, isAt, inContext, inPartition, isNamed, lacksSlot, inserts, answers, withEntries, line}
 use Rattle.machine.specs.Demand3.{Live}
 use Rattle.machine.specs.Frame.{entryIn}
+use Rattle.machine.specs.declared.VirtualAddress.{VirtualAddress}
 use Rattle.machine.specs.declared.Slot.{Slot}
 use Rattle.machine.specs.declared.Removal.the-variants.{Page, Context, Unlocked, Everything}
 use Rattle.machine.specs.declared.Placed.the-variants.{Done, Displaced}
@@ -133,23 +134,23 @@ overlap-test new h l = record {
 }
 
 -- the key of a lookup. On a real one the context is not compared, and a sound real slot has context 0
-pub key-test : (partition : ℕ) (real : Bool) (context address : ℕ) → partition < 8 → context < 2 ^ 13
-    → SameTest (answersTo (keyOf real partition context address)) (isAt partition real context address)
+pub key-test : (partition : ℕ) (real : Bool) (context : ℕ) (address : VirtualAddress) → partition < 8 → context < 2 ^ 13
+    → SameTest (answersTo (keyOf real partition context address)) (isAt partition real context (address .0))
 unfolding answersTo isAt slotSound liveSound
 key-test partition real context address p c = record { agree = agree real; live = λ x e. and-left _ _ e }
   where
     agree : (real : Bool) (x : Slot) → slotSound x ≡ true → isLive x ≡ true
-        → answersTo (keyOf real partition context address) x ≡ isAt partition real context address (entryIn x)
+        → answersTo (keyOf real partition context address) x ≡ isAt partition real context (address .0) (entryIn x)
     agree true x h l =
         let s : liveSound x ≡ true = rw l at h in
         let o : ownerSound x ≡ true = search conj in
-        rw (l, reaches-holds x h l address, agrees-real x partition p (record { 0 = address }) o, same-yes (isReal x)) (and-assoc (eqb (partitionOf x) partition) _ _)
+        rw (l, reaches-holds x h l (address .0), agrees-real x partition p (untranslated address) o, same-yes (isReal x)) (and-assoc (eqb (partitionOf x) partition) _ _)
     agree false x h l =
-        rw (l, reaches-holds x h l address, agrees-virtual x partition p context (record { 0 = address }) c, same-no (isReal x)) (simp and-assoc)
+        rw (l, reaches-holds x h l (address .0), agrees-virtual x partition p context address c, same-no (isReal x)) (simp and-assoc)
 
 -- a demap page asks for the same key
-pub page-test : (partition : ℕ) (real : Bool) (context address : ℕ) → partition < 8 → context < 2 ^ 13
-    → SameTest (removes (Page (keyOf real partition context address))) (isAt partition real context address)
+pub page-test : (partition : ℕ) (real : Bool) (context : ℕ) (address : VirtualAddress) → partition < 8 → context < 2 ^ 13
+    → SameTest (removes (Page (keyOf real partition context address))) (isAt partition real context (address .0))
 unfolding removes
 page-test partition real context address p c = key-test partition real context address p c
 
@@ -334,8 +335,8 @@ module _ {n : ℕ} {s : List Slot} {m : List Entry} (h : SideAlike n s m) where
         (l, find-only p m _ (sym (t .agree _ (sound-slot s i (h .sound)) l) ∙ a) (alike-live i l) one)
 
   -- at most one entry is found at a key
-  pub alike-one : (partition : ℕ) (real : Bool) (context address : ℕ) → partition < 8 → context < 2 ^ 13
-      → count (isAt partition real context address) m ≤ 1
+  pub alike-one : (partition : ℕ) (real : Bool) (context : ℕ) (address : VirtualAddress) → partition < 8 → context < 2 ^ 13
+      → count (isAt partition real context (address .0)) m ≤ 1
   unfolding sideSound
   alike-one partition real context address p c =
       rw (← (alike-count (key-test partition real context address p c))) (one-answers _ s (and-right (allOf slotSound s) _ (h .sound)))

@@ -23,7 +23,8 @@ use Rattle.machine.specs.Sound.{slotSound, sideSound}
 use Rattle.machine.specs.Registers.{registerWords, cell, register, withRegister, partition, mode, addressMask, selected, tagAccess, tagAddress, tagContext, known, writable, baseAllowed, configurationAllowed, allowed, registersSound, resetStrands}
 use Rattle.machine.specs.State.{slotCount, Counts, State, sideOf, withSide, withRegisters, stateWords, stateOf, encode, reset, sideFits, sound, wordsSound}
 use Rattle.machine.specs.Questions.{Question, kindSide, flagReal, flagLocked, keyOf, insertion, asked, ask, verdict}
-use Rattle.machine.specs.Access.{judge, prepare, trapTag, trapRegisters, addressUsed, settleJudged, settleFound, settle}
+use Rattle.machine.specs.Access.{judge, prepare, trapTag, trapRegisters, accessOf, settleJudged, settleFound, settle}
+use Rattle.machine.specs.declared.VirtualAddress.{VirtualAddress}
 use Rattle.machine.specs.declared.Access.{Access}
 use Rattle.machine.specs.declared.Tag.{Tag}
 use Rattle.machine.specs.declared.Tag.the-variants as effect
@@ -32,7 +33,6 @@ use Rattle.machine.specs.declared.Prepared.the-variants as prepared
 use Rattle.machine.specs.declared.Judged.{Judged}
 use Rattle.machine.specs.declared.Judged.the-variants as judged
 use Rattle.machine.specs.Step.{demap, act, stepBy, step}
-use Rattle.machine.specs.Stream.{after}
 use Rattle.machine.specs.declared.Slot.{Slot}
 use Rattle.machine.specs.declared.Key.{Key}
 use Rattle.machine.specs.declared.Removal.{Removal}
@@ -243,12 +243,12 @@ unfolding writable
 writable-below number h = range-below number 22 (omega arith) h
 
 -- ---- soundness is kept
-pub key-address : (real : Bool) (partition context address : ℕ) → keyAddress (keyOf real partition context address) ≡ address
+pub key-address : (real : Bool) (partition context : ℕ) (address : VirtualAddress) → keyAddress (keyOf real partition context address) ≡ address .0
 key-address true partition context address = refl
 key-address false partition context address = refl
 
 -- the slot of an insertion whose word and address passed
-pub insertion-sound : (u : State) (strand side flags word : ℕ) → inRange (tagAddress (tagAccess (u .registers) strand side)) ≡ true → wordInsertable word ≡ true
+pub insertion-sound : (u : State) (strand side flags word : ℕ) → inRange (tagAddress (tagAccess (u .registers) strand side) .0) ≡ true → wordInsertable word ≡ true
     → slotSound (insertion u strand side flags word) ≡ true
 insertion-sound u strand side flags word a w =
     let tag : ℕ = tagAccess (u .registers) strand side in
@@ -259,14 +259,14 @@ pub kind-side : (kind : ℕ) → kindSide kind < 2
 kind-side kind = by-test (eqb kind 0) (λ e. rw e (omega arith)) (λ e. rw e (omega arith))
 
 -- the registers after a trap
-pub trap-sound : (file : List ℕ) (a : Access) (t : Trap) (tag : Tag) → registersSound file ≡ true → a .strand < 4 → registersSound (trapRegisters file a t tag) ≡ true
+pub trap-sound : (file : List ℕ) (a : Access) (t : Trap) (tag : Tag) → registersSound file ≡ true → a .strand < 4 → a .side < 2
+    → registersSound (trapRegisters file a t tag) ≡ true
 unfolding trapRegisters
-trap-sound file a t tag h s = tagged tag
+trap-sound file a t tag h s d = tagged tag
   where
     -- register 20, 22 or 24 of the side
-    writes : (f : List ℕ) (k value : ℕ) → registersSound f ≡ true → k ≤ 4 → registersSound (withRegister f (a .strand) (20 + k + kindSide (a .kind)) value) ≡ true
+    writes : (f : List ℕ) (k value : ℕ) → registersSound f ≡ true → k ≤ 4 → registersSound (withRegister f (a .strand) (20 + k + a .side) value) ≡ true
     writes f k value e l =
-        let side : kindSide (a .kind) < 2 = kind-side (a .kind) in
         registers-written f (a .strand) _ value e s (omega arith) (allowed-any _ value (omega arith) (omega arith))
 
     untagged : registersSound (trapRegisters file a t effect.Kept) ≡ true
@@ -296,23 +296,23 @@ unfolding sound
 same-sound n u v h (i, d) r = and-both _ _ r (rw (i, d) (and-right (registersSound (u .registers)) _ h))
 
 -- an access of a known strand, from where it stops
-module _ (n : Counts) (a : Access) (s : a .strand < 4) where
+module _ (n : Counts) (a : Access) (s : a .strand < 4) (d : a .side < 2) where
   judged-registers : (u : State) (j : Judged) → registersSound (u .registers) ≡ true → registersSound (settleJudged u a j .state .registers) ≡ true
-  judged-registers u (judged.Faulted t) h = trap-sound (u .registers) a t (trapTag (u .registers) a) h s
+  judged-registers u (judged.Faulted t) h = trap-sound (u .registers) a t (trapTag (u .registers) a) h s d
   judged-registers u (judged.Translated p) h = h
 
-  found-sound : (u : State) (key : Key) (f : Found) → sound n u ≡ true → first (answersTo key) (sideOf u (kindSide (a .kind))) ≡ f
+  found-sound : (u : State) (key : Key) (f : Found) → sound n u ≡ true → first (answersTo key) (sideOf u (a .side)) ≡ f
       → sound n (settleFound u a f .state) ≡ true
-  found-sound u key Nothing h e = same-sound n u _ h (refl, refl) (trap-sound (u .registers) a _ _ (sound-registers n u h) s)
+  found-sound u key Nothing h e = same-sound n u _ h (refl, refl) (trap-sound (u .registers) a _ _ (sound-registers n u h) s d)
   found-sound u key (At i) h e =
-      let side : ℕ = kindSide (a .kind) in
+      let side : ℕ = a .side in
       same-sound n (withSide u side (setUsed i (sideOf u side))) _ (marked-sound n u side i key h e) (found-slots u a i)
       (judged-registers _ (judge (u .registers) a (getD (sideOf u side) i noSlot .word)) (sound-registers n u h))
 
   settled-sound : (u : State) (p : Prepared) → sound n u ≡ true → sound n (settle u a p .state) ≡ true
-  settled-sound u (prepared.Stopped t tag) h = same-sound n u _ h (refl, refl) (trap-sound (u .registers) a t tag (sound-registers n u h) s)
+  settled-sound u (prepared.Stopped t tag) h = same-sound n u _ h (refl, refl) (trap-sound (u .registers) a t tag (sound-registers n u h) s d)
   settled-sound u (prepared.Bypass p) h = same-sound n u _ h (refl, refl) (sound-registers n u h)
-  settled-sound u (prepared.Lookup key) h = found-sound u key (first (answersTo key) (sideOf u (kindSide (a .kind)))) h refl
+  settled-sound u (prepared.Lookup key) h = found-sound u key (first (answersTo key) (sideOf u (a .side))) h refl
 
 -- every command that no question refused
 pub act-sound : (n : Counts) (u : State) (c : Command) → sound n u ≡ true → verdict u c ≡ Passed → sound n (act u c .state) ≡ true
@@ -326,7 +326,7 @@ act-sound n u (command.Write strand number value) h v =
 act-sound n u (command.Insert strand side flags word) h v =
     let q = passed-asked u (command.Insert strand side flags word) v in
     let new : Slot = insertion u strand side flags word in
-    let a : inRange (tagAddress (tagAccess (u .registers) strand side)) ≡ true = search conj in
+    let a : inRange (tagAddress (tagAccess (u .registers) strand side) .0) ≡ true = search conj in
     let w : wordInsertable word ≡ true = search conj in
     sound-with-side n u h side _ (length-inserted candidate new (sideOf u side))
     (sound-inserted new (insertion-sound u strand side flags word a w) candidate (sideOf u side) (sound-side n u h side .1))
@@ -339,8 +339,8 @@ act-sound n u (command.Invalidate side) h v = removed-sound n u side removal.Eve
 act-sound n u (command.Access strand kind selector size address) h v =
     let q = passed-asked u (command.Access strand kind selector size address) v in
     let s : strand < 4 = search conj in
-    let a : Access = record { strand = strand; kind = kind; selector = selector; size = size; used = addressUsed (u .registers) strand address } in
-    settled-sound n a s u (prepare (u .registers) a) h
+    let a : Access = accessOf (u .registers) strand kind selector size address in
+    settled-sound n a s (kind-side kind) u (prepare (u .registers) a) h
 act-sound n u (command.Read strand number) h v = h
 act-sound n u (command.Pointers strand side) h v = h
 
@@ -351,8 +351,3 @@ step-sound n u c h = go (verdict u c) refl
     go : (v : Verdict) → verdict u c ≡ v → sound n (stepBy v u c .state) ≡ true
     go Passed e = act-sound n u c h e
     go (Refused r) e = h
-
-pub after-sound : (n : Counts) (u : State) (cs : List Command) → sound n u ≡ true → sound n (after u cs) ≡ true
-unfolding after
-after-sound n u [] h = h
-after-sound n u (c ∷ cs) h = after-sound n (step u c .state) cs (step-sound n u c h)

@@ -8,7 +8,6 @@ use Rattle.laws.specs.declared.Found.the-variants.{At}
 use Rattle.machine.specs.Slots.{noSlot, isUsed, setUsed}
 use Rattle.machine.specs.Insertion.{entryOf}
 use Rattle.machine.specs.State.{State, sideOf, withSide}
-use Rattle.machine.specs.Questions.{kindSide}
 use Rattle.machine.specs.Access.{judge, settleJudged, settleFound}
 use Rattle.machine.specs.declared.Slot.{Slot}
 use Rattle.machine.specs.declared.Key.{Key}
@@ -27,11 +26,11 @@ judged-slots u a (judged.Translated t) = (refl, refl)
 
 -- the found entry's used bit is set, whether it ends in a fault or not
 pub found-slots : (u : State) (a : Access) (i : ℕ) →
-    let side : ℕ = kindSide (a .kind) in
+    let side : ℕ = a .side in
     SameSlots (settleFound u a (At i) .state) (withSide u side (setUsed i (sideOf u side)))
 found-slots u a i =
-    let s : List Slot = sideOf u (kindSide (a .kind)) in
-    judged-slots (withSide u (kindSide (a .kind)) (setUsed i s)) a (judge (u .registers) a (getD s i noSlot .word))
+    let s : List Slot = sideOf u (a .side) in
+    judged-slots (withSide u (a .side) (setUsed i s)) a (judge (u .registers) a (getD s i noSlot .word))
 
 -- a new entry's is
 pub new-used : (key : Key) (locked : Bool) (word : ℕ) → isUsed (entryOf key locked word) ≡ true

@@ -9,6 +9,7 @@ use borrow.Author.Tests.{eqb-true, ltb-true}
 use Rattle.laws.proofs.Bools.{and-left, and-right}
 use Rattle.machine.specs.Pages.{pageShift}
 use Rattle.machine.specs.Words.{bits, unpacked, packed, fields, wordSound, wordInsertable, frame, physicalAt}
+use Rattle.machine.specs.declared.VirtualAddress.{VirtualAddress}
 use Rattle.machine.specs.declared.Tte.{Tte}
 use Rattle.machine.proofs.Pages.{shift-small, coarser}
 
@@ -43,15 +44,15 @@ unfolding wordInsertable
 insertable-sound w h = h
 
 -- no address in the page leaves the word's block of 2^40, whatever the word
-pub physical-block : (w address : ℕ) → physicalAt w address .0 / 2 ^ 40 ≡ bits 40 16 w
+pub physical-block : (w : ℕ) (address : VirtualAddress) → physicalAt w address .0 / 2 ^ 40 ≡ bits 40 16 w
 unfolding frame physicalAt
 physical-block w address =
     let k : ℕ = pageShift (w % 2 ^ 4) in
     let a : ℕ = bits 13 43 w * 2 ^ 13 in
-    coarser _ a k 40 (omega (arith, shift-small (w % 2 ^ 4))) (high (a / 2 ^ k) k (mod-lt address (pow-pos k))) ∙ omega arith
+    coarser _ a k 40 (omega (arith, shift-small (w % 2 ^ 4))) (high (a / 2 ^ k) k (mod-lt (address .0) (pow-pos k))) ∙ omega arith
 
 -- physical addresses are below 2^40
-pub physical-below : (w : ℕ) → wordSound w ≡ true → (address : ℕ) → physicalAt w address .0 < 2 ^ 40
+pub physical-below : (w : ℕ) → wordSound w ≡ true → (address : VirtualAddress) → physicalAt w address .0 < 2 ^ 40
 unfolding wordSound
 physical-below w h address =
     let zero-above : bits 40 16 w ≡ 0 = search conjuncts in

@@ -33,6 +33,18 @@ use Rattle.machine.specs.declared.Answer.the-variants as answer
 abbrev pub addressUsed : List ℕ → ℕ → VirtualAddress → VirtualAddress
 addressUsed file strand a = record { 0 = cond (eqb (addressMask file strand) 1 && ltb (mode file strand) 2) (a .0 % 2 ^ 32) (a .0) }
 
+-- an access by its operands: the side of its kind, the context that the selector picks, and the address used
+abbrev pub accessOf : List ℕ → ℕ → ℕ → ℕ → ℕ → VirtualAddress → Access
+accessOf file strand kind selector size address = record {
+  strand = strand;
+  kind = kind;
+  side = kindSide kind;
+  selector = selector;
+  size = size;
+  context = selected file strand selector;
+  used = addressUsed file strand address;
+}
+
 -- ---- prepare
 -- the trap of steps 4 and 6: 0x08 for a fetch, 0x30 for data
 abbrev pub exception : ℕ → ℕ → Trap
@@ -40,7 +52,7 @@ exception kind fault = cond (eqb kind 0) (trap.InstructionAccessException fault)
 
 -- the context that a trap leaves in tag access ("Access", last paragraph): the one selected; 0 while translation is off
 abbrev pub trapTag : List ℕ → Access → Tag
-trapTag file a = effect.Written (cond (translates file (a .strand) (kindSide (a .kind))) (selected file (a .strand) (a .selector)) 0)
+trapTag file a = effect.Written (cond (translates file (a .strand) (a .side)) (a .context) 0)
 
 -- step 3: the attributes of a bypass go by bit 39: cp alone (1) where it is 0, e alone (2) where it is 1
 abbrev pub bypassTo : VirtualAddress → Translation
@@ -48,8 +60,7 @@ bypassTo a = record { address = bypassed a; attributes = cond (eqb (bits 39 1 (a
 
 -- step 5: with translation off the key is real, and asks for no context
 abbrev pub lookupKey : List ℕ → Access → Key
-lookupKey file a =
-    keyOf (not (translates file (a .strand) (kindSide (a .kind)))) (partition file (a .strand)) (selected file (a .strand) (a .selector)) (a .used .0)
+lookupKey file a = keyOf (not (translates file (a .strand) (a .side))) (partition file (a .strand)) (a .context) (a .used)
 
 unfoldable pub prepare : List ℕ → Access → Prepared
 prepare file a =
@@ -67,7 +78,7 @@ prepare file a =
 -- step 5 with no entry found: the trap goes by the kind of address looked up and by the side
 abbrev pub missTrap : List ℕ → Access → Trap
 missTrap file a =
-    cond (translates file (a .strand) (kindSide (a .kind)))
+    cond (translates file (a .strand) (a .side))
     (cond (eqb (a .kind) 0) trap.InstructionMiss trap.DataMiss)
     (cond (eqb (a .kind) 0) trap.InstructionRealMiss trap.DataRealMiss)
 
@@ -92,7 +103,7 @@ judge file a word =
     -- 7. a store or an atomic needs w
     (cond ((eqb (a .kind) 2 || eqb (a .kind) 3) && eqb (bits 6 1 word) 0) (judged.Faulted trap.DataProtection)
     -- 8. the others get their physical address
-    (judged.Translated (record { address = physicalAt word (a .used .0); attributes = attributesOf word })))
+    (judged.Translated (record { address = physicalAt word (a .used); attributes = attributesOf word })))
 
 -- ---- settle
 -- the number that "Access" gives to a trap
@@ -126,12 +137,11 @@ withTag file strand side address (effect.Written context) = withRegister file st
 -- "Access", last paragraph: a trap sets fault address (22) and fault (24) of its side, and tag access where it is not kept
 unfoldable pub trapRegisters : List ℕ → Access → Trap → Tag → List ℕ
 trapRegisters file a t tag =
-    let side : ℕ = kindSide (a .kind) in
     withTag
     (withRegister
-    (withRegister file (a .strand) (faultAddressNumber side) (a .used .0))
-    (a .strand) (faultNumber side) (trapNumber t * 256 + trapFault t))
-    (a .strand) side (a .used .0) tag
+    (withRegister file (a .strand) (faultAddressNumber (a .side)) (a .used .0))
+    (a .strand) (faultNumber (a .side)) (trapNumber t * 256 + trapFault t))
+    (a .strand) (a .side) (a .used .0) tag
 
 pub record Stepped : Type 0 where
   pub state : State
@@ -145,7 +155,7 @@ abbrev pub trapTo : State → Access → Trap → Tag → Stepped
 trapTo u a t tag =
     let file : List ℕ = trapRegisters (u .registers) a t tag in
     stepped (withRegisters u file)
-    (answer.Trap (record { trap = t; address = a .used; tag = register file (a .strand) (tagNumber (kindSide (a .kind))) }))
+    (answer.Trap (record { trap = t; address = a .used; tag = register file (a .strand) (tagNumber (a .side)) }))
 
 abbrev pub settleJudged : State → Access → Judged → Stepped
 settleJudged u a (judged.Faulted t) = trapTo u a t (trapTag (u .registers) a)
@@ -155,13 +165,13 @@ settleJudged u a (judged.Translated p) = stepped u (answer.Physical p)
 abbrev pub settleFound : State → Access → Found → Stepped
 settleFound u a Nothing = trapTo u a (missTrap (u .registers) a) (trapTag (u .registers) a)
 settleFound u a (At i) =
-    let s : List Slot = sideOf u (kindSide (a .kind)) in
-    settleJudged (withSide u (kindSide (a .kind)) (setUsed i s)) a (judge (u .registers) a (getD s i noSlot .word))
+    let s : List Slot = sideOf u (a .side) in
+    settleJudged (withSide u (a .side) (setUsed i s)) a (judge (u .registers) a (getD s i noSlot .word))
 
 abbrev pub settle : State → Access → Prepared → Stepped
 settle u a (prepared.Stopped t tag) = trapTo u a t tag
 settle u a (prepared.Bypass p) = stepped u (answer.Physical p)
-settle u a (prepared.Lookup key) = settleFound u a (search key (sideOf u (kindSide (a .kind))))
+settle u a (prepared.Lookup key) = settleFound u a (search key (sideOf u (a .side)))
 
 abbrev pub accessTo : State → Access → Stepped
 accessTo u a = settle u a (prepare (u .registers) a)

@@ -11,12 +11,12 @@ use Rattle.laws.specs.Passing.{howMany}
 use Rattle.machine.specs.State.{Counts, slotCount, State, stateOf, encode, reset, wordsSound}
 use Rattle.machine.specs.Step.{step}
 use Rattle.machine.specs.Stream.{Bytes, answerBytes, runOf}
+use Rattle.machine.specs.Views.{View, insertion, access, other, view}
 use Rattle.machine.specs.Ledger.{Entry, Ledger, overlap, unlocked, line, Written, nameIn, isNamed, newEntry, firstNo, questions, Asked, usedAddress, askedSide, looksUp, foundBy, misses, hits, enters}
 use Rattle.machine.specs.Places.{Place, Reference, displacedFrom, referenceTold, referenceStart, referenceWords}
 use Rattle.machine.specs.Format.{Reading, ReadAs}
 use Rattle.machine.specs.Good.{ReferenceGood, GoodWords}
 use Rattle.machine.specs.declared.Command.{Command}
-use Rattle.machine.specs.declared.Command.the-variants as command
 
 -- ---- the ledger beside the unit
 -- the unit's answer to a command
@@ -60,22 +60,17 @@ pub record AccessSays (l : Ledger) (a : Asked) (b : Bytes) : Type 0 where
   pub hit : (e : Entry) → Live e (l .entries (askedSide a)) → foundBy l a e ≡ true → b ≡ hits l a e .bytes
   pub missed : (b ≡ misses l a .bytes) ↔ (howMany (foundBy l a) (l .entries (askedSide a)) ≡ 0)
 
-abbrev pub Says : Counts → Reference → Command → Bytes → Type 0
-Says n k (command.Write strand number value) b = Unit {0}
-Says n k (command.Insert strand side flags word) b =
-    firstNo (questions (k .ledger) (command.Insert strand side flags word)) ≡ 0
-    → InsertionSays (slotCount n side) (k .places side) (k .ledger .entries side) (newEntry (k .ledger) strand side flags word) b
-Says n k (command.DemapPage strand side selector flags address) b = Unit {0}
-Says n k (command.DemapContext strand side selector) b = Unit {0}
-Says n k (command.DemapAll strand side) b = Unit {0}
-Says n k (command.Invalidate side) b = Unit {0}
-Says n k (command.Access strand kind selector size address) b =
+-- of a command that none of 5 to 12 refused
+abbrev pub SaysOf : Counts → Reference → View → Bytes → Type 0
+SaysOf n k (insertion strand side flags word) b =
+    InsertionSays (slotCount n side) (k .places side) (k .ledger .entries side) (newEntry (k .ledger) strand side flags word) b
+SaysOf n k (access strand kind selector size address) b =
     let a : Asked = record { strand = strand; kind = kind; selector = selector; size = size; used = usedAddress (k .ledger) strand (address .0) } in
-    firstNo (questions (k .ledger) (command.Access strand kind selector size address)) ≡ 0
-    → looksUp (k .ledger) a ≡ true
-    → AccessSays (k .ledger) a b
-Says n k (command.Read strand number) b = Unit {0}
-Says n k (command.Pointers strand side) b = Unit {0}
+    looksUp (k .ledger) a ≡ true → AccessSays (k .ledger) a b
+SaysOf n k other b = Unit {0}
+
+abbrev pub Says : Counts → Reference → Command → Bytes → Type 0
+Says n k c b = firstNo (questions (k .ledger) c) ≡ 0 → SaysOf n k (view c) b
 
 -- before and after each command the state has the words of ledger and places; its 24 bytes are the ledger's; what is said of insertions and accesses holds
 abbrev pub CommandsSay : Counts → State → Reference → List Command → Type 0

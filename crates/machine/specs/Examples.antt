@@ -14,7 +14,7 @@ use Rattle.machine.specs.Access.{prepare, judge, trapNumber, trapFault}
 use Rattle.machine.specs.declared.Access.{Access}
 use Rattle.machine.specs.declared.Prepared.the-variants as prepared
 use Rattle.machine.specs.declared.Judged.the-variants as judged
-use Rattle.machine.specs.Step.{tsbPointer}
+use Rattle.machine.specs.Tsb.{tsbPointer}
 use Rattle.machine.specs.Stream.{Bytes, Outcome, runOf}
 use Rattle.machine.specs.declared.Command.the-variants as command
 use Rattle.machine.specs.declared.Refusal.{Refusal}
@@ -24,10 +24,10 @@ use Rattle.machine.specs.declared.Translation.{Translation}
 
 -- a store of 8 bytes by the primary context, and a load
 abbrev pub store : ℕ → Access
-store address = record { strand = 0; kind = 2; selector = 0; size = 3; used = record { 0 = address } }
+store address = record { strand = 0; kind = 2; side = 1; selector = 0; size = 3; context = 0; used = record { 0 = address } }
 
 abbrev pub load : ℕ → Access
-load address = record { strand = 0; kind = 1; selector = 0; size = 3; used = record { 0 = address } }
+load address = record { strand = 0; kind = 1; side = 1; selector = 0; size = 3; context = 0; used = record { 0 = address } }
 
 pub record Starred : Type 0 where
   -- first example: the last address before the hole, the first and the last in it, the first behind it
@@ -37,7 +37,7 @@ pub record Starred : Type 0 where
   pub accepted : (u : State) → verdict u (command.Write 0 1 8191) ≡ Passed
   pub refused : (u : State) → (r : Refusal) × (verdict u (command.Write 0 1 8192) ≡ Refused r) × (refusalNumber r ≡ 10)
   -- third: a 4 MB page whose word's address is not at a page start
-  pub large : physicalAt 0x8000_0000_1240_2003 0x8040_1234 .0 ≡ 0x1240_1234
+  pub large : physicalAt 0x8000_0000_1240_2003 (record { 0 = 0x8040_1234 }) .0 ≡ 0x1240_1234
   -- fourth: p stops a user's store before w does; bit 8 is p, bit 6 is w, and registers that are all zero are a user's
   pub privileged : (mode [] 0 ≡ 0) × (bits 8 1 0x8000_0000_0000_0100 ≡ 1) × (bits 6 1 0x8000_0000_0000_0100 ≡ 0)
       × ((t : Trap) × (judge [] (store 0) 0x8000_0000_0000_0100 ≡ judged.Faulted t) × (trapNumber t ≡ 0x30) × (trapFault t ≡ 0x01))

@@ -17,7 +17,7 @@ encoded (command.Write strand register value) = 0x01 ∷ strand ∷ register ∷
 -- flags: 1 real, 2 locked
 encoded (command.Insert strand side flags word) = 0x02 ∷ strand ∷ side ∷ flags ∷ bigEndian 8 word
 -- flags: 1 real
-encoded (command.DemapPage strand side selector flags address) = 0x03 ∷ strand ∷ side ∷ selector ∷ flags ∷ bigEndian 8 address
+encoded (command.DemapPage strand side selector flags address) = 0x03 ∷ strand ∷ side ∷ selector ∷ flags ∷ bigEndian 8 (address .0)
 encoded (command.DemapContext strand side selector) = 0x04 ∷ strand ∷ side ∷ selector ∷ []
 encoded (command.DemapAll strand side) = 0x05 ∷ strand ∷ side ∷ []
 encoded (command.Invalidate side) = 0x06 ∷ side ∷ []
@@ -29,7 +29,7 @@ encoded (command.Pointers strand side) = 0x09 ∷ strand ∷ side ∷ []
 unfoldable pub fits : Command → Bool
 fits (command.Write strand register value) = ltb value (2 ^ 64)
 fits (command.Insert strand side flags word) = ltb word (2 ^ 64)
-fits (command.DemapPage strand side selector flags address) = ltb address (2 ^ 64)
+fits (command.DemapPage strand side selector flags address) = ltb (address .0) (2 ^ 64)
 fits (command.DemapContext strand side selector) = true
 fits (command.DemapAll strand side) = true
 fits (command.Invalidate side) = true

@@ -3,7 +3,7 @@
 use Prim.Native.Nat.{ℕ, _<_}
 use mathlib.Core.Path.{_≡_}
 use mathlib.Core.Bool.{true, false}
-use mathlib.Core.List.{List, [], _∷_}
+use mathlib.Core.List.{List}
 use mathlib.Core.Logic.{_⊎_}
 use lib.Dec.{eqb}
 use lib.ListN.{getD}
@@ -15,6 +15,7 @@ use Rattle.machine.specs.State.{Counts, State, sideOf, reset, sound}
 use Rattle.machine.specs.Questions.{insertion, verdict}
 use Rattle.machine.specs.Step.{step}
 use Rattle.machine.specs.Ledger.{Entry, overlap, unlocked, isAt, inContext}
+use Rattle.machine.specs.declared.VirtualAddress.{VirtualAddress}
 use Rattle.machine.specs.declared.Slot.{Slot}
 use Rattle.machine.specs.declared.Command.{Command}
 use Rattle.machine.specs.declared.Command.the-variants as command
@@ -41,8 +42,8 @@ pub data Removes (u : State) (side : ℕ) (e : Entry) : Command → Type 0 where
       → overlap (entryIn (insertion u strand side flags word)) e ≡ true
       → Removes u side e (command.Insert strand side flags word)
   -- demap page: of the strand's partition, real or virtual as asked, at the address; if virtual, of the selected context
-  demappedPage : {strand selector flags address : ℕ} → partition (u .registers) strand ≡ e .partition
-      → isAt (partition (u .registers) strand) (eqb flags 1) (selected (u .registers) strand selector) address e ≡ true
+  demappedPage : {strand selector flags : ℕ} {address : VirtualAddress} → partition (u .registers) strand ≡ e .partition
+      → isAt (partition (u .registers) strand) (eqb flags 1) (selected (u .registers) strand selector) (address .0) e ≡ true
       → Removes u side e (command.DemapPage strand side selector flags address)
   -- demap context: a virtual entry of the strand's partition and the selected context
   demappedContext : {strand selector : ℕ} → partition (u .registers) strand ≡ e .partition
@@ -55,11 +56,6 @@ pub data Removes (u : State) (side : ℕ) (e : Entry) : Command → Type 0 where
       → ((x : Entry) → Lives u side x → overlap (entryIn (insertion u strand side flags word)) x ≡ false)
       → unlocked e ≡ true
       → Removes u side e (command.Insert strand side flags word)
-
--- no command of a list, taken in the state that those before it leave, is accepted and takes e
-abbrev pub Spares : State → ℕ → Entry → List Command → Type 0
-Spares u side e [] = Unit {0}
-Spares u side e (c ∷ cs) = (((verdict u c ≡ Passed) × Removes u side e c) → ⊥) × Spares (step u c .state) side e cs
 
 -- ---- the two laws on one command that later ones are inductions over
 -- a live entry stays, with the same word, or a command that was accepted is one of those

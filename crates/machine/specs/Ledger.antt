@@ -175,7 +175,7 @@ questions l (command.Insert strand side flags word) =
     (5, leb strand 3) ∷ (6, leb side 1) ∷ (8, leb flags 3)
     ∷ (11, addressGood (tagOf l strand side - tagOf l strand side % 8192)) ∷ (12, wordGood word) ∷ []
 questions l (command.DemapPage strand side selector flags address) =
-    (5, leb strand 3) ∷ (6, leb side 1) ∷ (7, selectorGood side selector) ∷ (8, leb flags 1) ∷ (11, addressGood address) ∷ []
+    (5, leb strand 3) ∷ (6, leb side 1) ∷ (7, selectorGood side selector) ∷ (8, leb flags 1) ∷ (11, addressGood (address .0)) ∷ []
 questions l (command.DemapContext strand side selector) = (5, leb strand 3) ∷ (6, leb side 1) ∷ (7, selectorGood side selector) ∷ []
 questions l (command.DemapAll strand side) = (5, leb strand 3) ∷ (6, leb side 1) ∷ []
 questions l (command.Invalidate side) = (6, leb side 1) ∷ []
@@ -328,7 +328,7 @@ unfoldable pub does : (ℕ → ℕ) → Ledger → Command → Name → Written
 does n l (command.Write strand number value) d = answers (writes l strand number value) (line 0 0 0 0 0 0)
 does n l (command.Insert strand side flags word) d = inserts (n side) l side (newEntry l strand side flags word) d
 does n l (command.DemapPage strand side selector flags address) d =
-    demaps l side (isAt (l .registers strand 0) (eqb flags 1) (contextPicked l strand selector) address)
+    demaps l side (isAt (l .registers strand 0) (eqb flags 1) (contextPicked l strand selector) (address .0))
 does n l (command.DemapContext strand side selector) d = demaps l side (inContext (l .registers strand 0) (contextPicked l strand selector))
 does n l (command.DemapAll strand side) d = demaps l side (inPartition (l .registers strand 0))
 does n l (command.Invalidate side) d = answers (withEntries l side []) (line 0 0 0 0 0 0)

@@ -7,8 +7,10 @@ pub mod Registers
 pub mod State
 pub mod Questions
 pub mod Access
+pub mod Tsb
 pub mod Step
 pub mod Stream
+pub mod Views
 pub mod Ledger
 pub mod Places
 pub mod Demand3

@@ -97,7 +97,7 @@ moved n k (command.Insert strand side flags word) =
     cond (lacksSlot (n side) e (k .ledger .entries side)) (k .places)
     (withPlaces (k .places) side (withEntry e (map (emptiedWhere (overlap e)) (k .places side))))
 moved n k (command.DemapPage strand side selector flags address) =
-    each k side (emptiedWhere (isAt (k .ledger .registers strand 0) (eqb flags 1) (contextPicked (k .ledger) strand selector) address))
+    each k side (emptiedWhere (isAt (k .ledger .registers strand 0) (eqb flags 1) (contextPicked (k .ledger) strand selector) (address .0)))
 moved n k (command.DemapContext strand side selector) =
     each k side (emptiedWhere (inContext (k .ledger .registers strand 0) (contextPicked (k .ledger) strand selector)))
 moved n k (command.DemapAll strand side) = each k side (emptiedWhere (inPartition (k .ledger .registers strand 0)))

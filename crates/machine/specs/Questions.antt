@@ -4,11 +4,12 @@ use Prim.Native.Nat.{ℕ, _%_, _/_}
 use mathlib.Core.Bool.{Bool, true, false, not, cond, _&&_, _||_}
 use mathlib.Core.List.{List, [], _∷_}
 use lib.Dec.{eqb, ltb}
-use Rattle.machine.specs.Pages.{inRange}
+use Rattle.machine.specs.Pages.{inRange, untranslated}
 use Rattle.machine.specs.Words.{wordInsertable}
 use Rattle.machine.specs.Registers.{partition, mode, tagAccess, tagAddress, tagContext, known, writable, allowed}
 use Rattle.machine.specs.Insertion.{entryOf, candidate, hasSlot}
 use Rattle.machine.specs.State.{State, sideOf}
+use Rattle.machine.specs.declared.VirtualAddress.{VirtualAddress}
 use Rattle.machine.specs.declared.Slot.{Slot}
 use Rattle.machine.specs.declared.Key.{Key}
 use Rattle.machine.specs.declared.Key.the-variants.{Virtual, Real}
@@ -43,9 +44,9 @@ flagReal flags = eqb (flags % 2) 1
 abbrev pub flagLocked : ℕ → Bool
 flagLocked flags = eqb (flags / 2 % 2) 1
 
-abbrev pub keyOf : Bool → ℕ → ℕ → ℕ → Key
-keyOf true partition context address = Real partition (record { 0 = address })
-keyOf false partition context address = Virtual partition context (record { 0 = address })
+abbrev pub keyOf : Bool → ℕ → ℕ → VirtualAddress → Key
+keyOf true partition context address = Real partition (untranslated address)
+keyOf false partition context address = Virtual partition context address
 
 -- the entry of an insertion: by the strand's partition and the side's tag access; its flags say whether it is real and locked
 abbrev pub insertion : State → ℕ → ℕ → ℕ → ℕ → Slot
@@ -83,7 +84,7 @@ asked u (command.Insert strand side flags word) =
     question refusal.Strand (ltb strand 4)
     ∷ question refusal.Side (ltb side 2)
     ∷ question refusal.Operand (ltb flags 4)
-    ∷ question refusal.Address (inRange (tagAddress (tagAccess (u .registers) strand side)))
+    ∷ question refusal.Address (inRange (tagAddress (tagAccess (u .registers) strand side) .0))
     ∷ question refusal.Word (wordInsertable word)
     ∷ question refusal.NoSlot (hasSlot candidate (insertion u strand side flags word) (sideOf u side))
     ∷ []
@@ -92,7 +93,7 @@ asked u (command.DemapPage strand side selector flags address) =
     ∷ question refusal.Side (ltb side 2)
     ∷ question refusal.Selector (selectorFits side selector)
     ∷ question refusal.Operand (ltb flags 2)
-    ∷ question refusal.Address (inRange address)
+    ∷ question refusal.Address (inRange (address .0))
     ∷ []
 asked u (command.DemapContext strand side selector) =
     question refusal.Strand (ltb strand 4)

@@ -8,13 +8,13 @@ use mathlib.Core.List.{List, [], _∷_, _++_}
 use lib.ListN.{length, drop}
 use Rattle.machine.specs.State.{Counts, resetOf, resetNumber}
 use Rattle.machine.specs.Stream.{Bytes, Outcome, runOf}
+use Rattle.machine.specs.Views.{View, insertion, access, other, view}
 use Rattle.machine.specs.Ledger.{Entry, oneIf, Name, enters}
 use Rattle.machine.specs.Places.{Reference, displacedFrom, referenceTold, referenceStart, referenceWords}
 use Rattle.machine.specs.Format.{Reading, ReadAs}
 use Rattle.machine.specs.Demand3.{Event, run}
 use Rattle.machine.specs.Good.{ReferenceGood, GoodWords}
 use Rattle.machine.specs.declared.Command.{Command}
-use Rattle.machine.specs.declared.Command.the-variants as command
 use Rattle.machine.specs.declared.Report.{Report}
 
 -- ---- commands. n is the slot count of each side
@@ -24,16 +24,13 @@ nameOf none = record { partition = 0; real = 0; place = 0; word = 0 }
 nameOf (some e) = record { partition = e .partition; real = oneIf (e .real); place = e .page + e .context; word = e .word }
 
 -- whom a command displaces: an insertion, the one that the places pick
+abbrev pub displacedBy : Reference → View → Option Entry
+displacedBy k (insertion strand side flags word) = displacedFrom (k .places side)
+displacedBy k (access strand kind selector size address) = none
+displacedBy k other = none
+
 abbrev pub displacedName : Reference → Command → Name
-displacedName k (command.Write strand number value) = nameOf none
-displacedName k (command.Insert strand side flags word) = nameOf (displacedFrom (k .places side))
-displacedName k (command.DemapPage strand side selector flags address) = nameOf none
-displacedName k (command.DemapContext strand side selector) = nameOf none
-displacedName k (command.DemapAll strand side) = nameOf none
-displacedName k (command.Invalidate side) = nameOf none
-displacedName k (command.Access strand kind selector size address) = nameOf none
-displacedName k (command.Read strand number) = nameOf none
-displacedName k (command.Pointers strand side) = nameOf none
+displacedName k c = nameOf (displacedBy k (view c))
 
 abbrev pub referenceNext : (ℕ → ℕ) → Reference → Command → Reference
 referenceNext n k c = referenceTold n k c (displacedName k c)

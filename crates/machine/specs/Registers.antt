@@ -8,6 +8,7 @@ use lib.ListN.{length, getD, set}
 use Rattle.laws.specs.Tests.{allBelow}
 use Rattle.machine.specs.Pages.{listed}
 use Rattle.machine.specs.Words.{bits}
+use Rattle.machine.specs.declared.VirtualAddress.{VirtualAddress}
 
 -- ---- the register file: 32 cells for each of four strands
 abbrev pub registerWords : ℕ
@@ -54,8 +55,8 @@ tagAccess file strand side = register file strand (tagNumber side)
 abbrev pub tagOf : ℕ → ℕ → ℕ
 tagOf address context = address / 2 ^ 13 * 2 ^ 13 + context
 
-abbrev pub tagAddress : ℕ → ℕ
-tagAddress tag = tag / 2 ^ 13 * 2 ^ 13
+abbrev pub tagAddress : ℕ → VirtualAddress
+tagAddress tag = record { 0 = tag / 2 ^ 13 * 2 ^ 13 }
 
 abbrev pub tagContext : ℕ → ℕ
 tagContext tag = tag % 2 ^ 13

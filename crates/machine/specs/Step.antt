@@ -1,16 +1,14 @@
 -- One command of the unit: its questions, what it does to the state, and what it answers.
 -- Assumes nothing.
-use Prim.Native.Nat.{ℕ, _+_, _*_, _/_, _%_, _^_}
-use mathlib.Core.List.{List}
+use Prim.Native.Nat.{ℕ, _+_}
 use Rattle.laws.specs.Tests.{count}
-use Rattle.machine.specs.Pages.{pageSize}
-use Rattle.machine.specs.Words.{bits}
 use Rattle.machine.specs.Slots.{partitionOf, isReal, contextOf}
-use Rattle.machine.specs.Registers.{register, withRegister, partition, selected, tagAccess, tagAddress, tagContext, baseNumber, configurationNumber}
+use Rattle.machine.specs.Registers.{register, withRegister, partition, selected}
+use Rattle.machine.specs.Tsb.{pointer}
 use Rattle.machine.specs.Insertion.{removed, removes, candidate, inserted, placed}
 use Rattle.machine.specs.State.{State, sideOf, withSide, withRegisters}
 use Rattle.machine.specs.Questions.{flagReal, keyOf, insertion, verdict}
-use Rattle.machine.specs.Access.{Stepped, stepped, addressUsed, accessTo}
+use Rattle.machine.specs.Access.{Stepped, stepped, accessOf, accessTo}
 use Rattle.machine.specs.declared.Slot.{Slot}
 use Rattle.machine.specs.declared.Removal.{Removal}
 use Rattle.machine.specs.declared.Removal.the-variants as removal
@@ -39,22 +37,6 @@ placedAnswer placement.Refused = answer.Refused refusal.NoSlot
 abbrev pub demap : State → ℕ → Removal → Stepped
 demap u side which = stepped (withSide u side (removed (removes which) (sideOf u side))) (answer.Done (count (removes which) (sideOf u side)))
 
--- ---- pointers
--- "Pointers": 16 bytes for each page, by the low 9 + n bits of the page's number
-unfoldable pub tsbOffset : ℕ → ℕ → ℕ → ℕ
-tsbOffset n code address = 16 * (address / pageSize code % 2 ^ (9 + n))
-
--- the base from bit 13 + N up, and the offset; N is in the base's low four bits
-unfoldable pub tsbPointer : ℕ → ℕ → ℕ → ℕ
-tsbPointer base code address = base / 2 ^ (13 + base % 2 ^ 4) * 2 ^ (13 + base % 2 ^ 4) + tsbOffset (base % 2 ^ 4) code address
-
--- whether the context in tag access is 0 says by which registers; size 0 is ps0, 1 is ps1
-abbrev pub pointer : List ℕ → ℕ → ℕ → ℕ → ℕ
-pointer file strand side size =
-    let tag : ℕ = tagAccess file strand side in
-    let configuration : ℕ = register file strand (configurationNumber side (tagContext tag)) in
-    tsbPointer (register file strand (baseNumber side (tagContext tag) size)) (bits (8 * size) 3 configuration) (tagAddress tag)
-
 -- ---- what a command does that no question refused
 unfoldable pub act : State → Command → Stepped
 act u (command.Write strand number value) = stepped (withRegisters u (withRegister (u .registers) strand number value)) (answer.Done 0)
@@ -68,7 +50,7 @@ act u (command.DemapContext strand side selector) =
 act u (command.DemapAll strand side) = demap u side (removal.Unlocked (partition (u .registers) strand))
 act u (command.Invalidate side) = stepped (withSide u side (removed (removes removal.Everything) (sideOf u side))) (answer.Done 0)
 act u (command.Access strand kind selector size address) =
-    accessTo u (record { strand = strand; kind = kind; selector = selector; size = size; used = addressUsed (u .registers) strand address })
+    accessTo u (accessOf (u .registers) strand kind selector size address)
 act u (command.Read strand number) = stepped u (answer.Read (register (u .registers) strand number) 0)
 act u (command.Pointers strand side) = stepped u (answer.Read (pointer (u .registers) strand side 0) (pointer (u .registers) strand side 1))
 

@@ -36,24 +36,33 @@ four s i = two s i * 65536 + two s (i + 2)
 unfoldable pub eight : Bytes → ℕ → ℕ
 eight s i = four s i * 4294967296 + four s (i + 4)
 
--- number 3: a command of a known byte, by its width
-abbrev pub whole : Bytes → ℕ → ℕ → Command → Decoded
-whole s at width c = cond (ltb (length s - at) width) (Stop 3) (Known c width)
+-- the bytes of a command by its first, that one included; 0 where the byte is no command's
+unfoldable pub widthOf : ℕ → ℕ
+widthOf b =
+    cond (eqb b 1) 11 (cond (eqb b 2) 12 (cond (eqb b 3) 13 (cond (eqb b 4) 4 (cond (eqb b 5) 3
+    (cond (eqb b 6) 2 (cond (eqb b 7) 13 (cond (eqb b 8) 3 (cond (eqb b 9) 3 0))))))))
 
--- what stands at a position; number 2 where the byte is no command's
+-- the command that a known byte begins, with its operands behind it
+unfoldable pub commandAt : Bytes → ℕ → Command
+commandAt s at =
+    let operand : ℕ → ℕ = λ i. byte s (at + i) in
+    cond (eqb (byte s at) 1) (command.Write (operand 1) (operand 2) (eight s (at + 3)))
+    (cond (eqb (byte s at) 2) (command.Insert (operand 1) (operand 2) (operand 3) (eight s (at + 4)))
+    (cond (eqb (byte s at) 3) (command.DemapPage (operand 1) (operand 2) (operand 3) (operand 4) (record { 0 = eight s (at + 5) }))
+    (cond (eqb (byte s at) 4) (command.DemapContext (operand 1) (operand 2) (operand 3))
+    (cond (eqb (byte s at) 5) (command.DemapAll (operand 1) (operand 2))
+    (cond (eqb (byte s at) 6) (command.Invalidate (operand 1))
+    (cond (eqb (byte s at) 7) (command.Access (operand 1) (operand 2) (operand 3) (operand 4) (record { 0 = eight s (at + 5) }))
+    (cond (eqb (byte s at) 8) (command.Read (operand 1) (operand 2))
+    (command.Pointers (operand 1) (operand 2)))))))))
+
+-- what stands at a position: number 2 where the byte is no command's, 3 where its width runs past the end
 unfoldable pub decodeAt : Bytes → ℕ → Decoded
 decodeAt s at =
-    let operand : ℕ → ℕ = λ i. byte s (at + i) in
-    cond (eqb (byte s at) 1) (whole s at 11 (command.Write (operand 1) (operand 2) (eight s (at + 3))))
-    (cond (eqb (byte s at) 2) (whole s at 12 (command.Insert (operand 1) (operand 2) (operand 3) (eight s (at + 4))))
-    (cond (eqb (byte s at) 3) (whole s at 13 (command.DemapPage (operand 1) (operand 2) (operand 3) (operand 4) (eight s (at + 5))))
-    (cond (eqb (byte s at) 4) (whole s at 4 (command.DemapContext (operand 1) (operand 2) (operand 3)))
-    (cond (eqb (byte s at) 5) (whole s at 3 (command.DemapAll (operand 1) (operand 2)))
-    (cond (eqb (byte s at) 6) (whole s at 2 (command.Invalidate (operand 1)))
-    (cond (eqb (byte s at) 7) (whole s at 13 (command.Access (operand 1) (operand 2) (operand 3) (operand 4) (record { 0 = eight s (at + 5) })))
-    (cond (eqb (byte s at) 8) (whole s at 3 (command.Read (operand 1) (operand 2)))
-    (cond (eqb (byte s at) 9) (whole s at 3 (command.Pointers (operand 1) (operand 2)))
-    (Stop 2)))))))))
+    let width : ℕ = widthOf (byte s at) in
+    cond (eqb width 0) (Stop 2)
+    (cond (ltb (length s - at) width) (Stop 3)
+    (Known (commandAt s at) width))
 
 -- ---- answers
 -- eight bytes of a value, big-endian
@@ -66,19 +75,34 @@ bytes v =
 abbrev pub answerOf : ℕ → ℕ → ℕ → ℕ → ℕ → ℕ → Bytes
 answerOf kind a b c v w = (kind ∷ a % 256 ∷ b % 256 ∷ c % 256 ∷ 0 ∷ 0 ∷ 0 ∷ 0 ∷ []) ++ (bytes v ++ bytes w)
 
-unfoldable pub answerBytes : Answer → Bytes
+-- what an answer has to say; the bytes not named are zero
+pub record Fields : Type 0 where
+  pub kind : ℕ
+  pub a : ℕ
+  pub b : ℕ
+  pub c : ℕ
+  pub first : ℕ
+  pub second : ℕ
+
+abbrev pub fields : ℕ → ℕ → ℕ → ℕ → ℕ → ℕ → Fields
+fields kind a b c v w = record { kind = kind; a = a; b = b; c = c; first = v; second = w }
+
+abbrev pub fieldsOf : Answer → Fields
 -- done; a demap says how many it removed
-answerBytes (answer.Done n) = answerOf 0 0 0 0 n 0
+fieldsOf (answer.Done n) = fields 0 0 0 0 n 0
 -- physical: a has the attributes
-answerBytes (answer.Physical t) = answerOf 1 (t .attributes) 0 0 (t .address .0) 0
+fieldsOf (answer.Physical t) = fields 1 (t .attributes) 0 0 (t .address .0) 0
 -- trap: the address used, then tag access as the trap leaves it
-answerBytes (answer.Trap t) = answerOf 2 (trapNumber (t .trap)) (trapFault (t .trap)) 0 (t .address .0) (t .tag)
+fieldsOf (answer.Trap t) = fields 2 (trapNumber (t .trap)) (trapFault (t .trap)) 0 (t .address .0) (t .tag)
 -- read: a register, or both pointers
-answerBytes (answer.Read v w) = answerOf 3 0 0 0 v w
+fieldsOf (answer.Read v w) = fields 3 0 0 0 v w
 -- displaced: `place` has page address and context
-answerBytes (answer.Displaced d) = answerOf 4 0 (d .partition) (tick (d .real)) (d .place) (d .word)
+fieldsOf (answer.Displaced d) = fields 4 0 (d .partition) (tick (d .real)) (d .place) (d .word)
 -- refused: a has the number
-answerBytes (answer.Refused r) = answerOf 5 (refusalNumber r) 0 0 0 0
+fieldsOf (answer.Refused r) = fields 5 (refusalNumber r) 0 0 0 0
+
+unfoldable pub answerBytes : Answer → Bytes
+answerBytes x = let f : Fields = fieldsOf x in answerOf (f .kind) (f .a) (f .b) (f .c) (f .first) (f .second)
 
 -- ---- a run
 -- what a run takes of its bytes: it goes by the bytes and the room alone

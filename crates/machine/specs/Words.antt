@@ -4,6 +4,7 @@ use Prim.Native.Nat.{ℕ, _+_, _*_, _/_, _%_, _^_}
 use mathlib.Core.Bool.{Bool, _&&_}
 use lib.Dec.{eqb, ltb}
 use Rattle.machine.specs.Pages.{listed, pageStart, pageOffset}
+use Rattle.machine.specs.declared.VirtualAddress.{VirtualAddress}
 use Rattle.machine.specs.declared.Tte.{Tte}
 use Rattle.machine.specs.declared.PhysicalAddress.{PhysicalAddress}
 
@@ -66,5 +67,5 @@ unfoldable pub frame : ℕ → PhysicalAddress
 frame word = record { 0 = pageStart (word % 2 ^ 4) (bits 13 43 word * 2 ^ 13) }
 
 -- step 8: the physical address of an address in the page
-unfoldable pub physicalAt : ℕ → ℕ → PhysicalAddress
-physicalAt word address = record { 0 = frame word .0 + pageOffset (word % 2 ^ 4) address }
+unfoldable pub physicalAt : ℕ → VirtualAddress → PhysicalAddress
+physicalAt word address = record { 0 = frame word .0 + pageOffset (word % 2 ^ 4) (address .0) }

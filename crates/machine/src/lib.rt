@@ -15,27 +15,43 @@ ghost use Rattle.machine.specs.Format.{Readable, Decodes};
 
 // Registers by number: document 01, "Registers". One that each side has stands at the number given plus the side.
 pub const PARTITION: u8 = 0;
+
 pub const PRIMARY_CONTEXT: u8 = 1;
+
 pub const SECONDARY_CONTEXT: u8 = 2;
+
 pub const MODE: u8 = 3;
+
 pub const TRANSLATION: u8 = 4;
+
 pub const ADDRESS_MASK: u8 = 5;
+
 pub const TSB_BASE: u8 = 8;
+
 pub const TSB_CONFIGURATION: u8 = 16;
+
 pub const TAG_ACCESS: u8 = 20;
+
 pub const FAULT_ADDRESS: u8 = 22;
+
 pub const FAULT_STATUS: u8 = 24;
 
 // What a mode register holds.
 pub const USER: u64 = 0;
+
 pub const HYPERPRIVILEGED: u64 = 2;
 
 // The words of a state: cells of a strand and of all four, the words of a slot, the slots and words of a side, all.
 pub const STRAND_CELLS: usize = 32;
+
 pub const REGISTER_WORDS: usize = 4 * STRAND_CELLS;
+
 pub const SLOT_WORDS: usize = 4;
+
 pub const SIDE_SLOTS: usize = 64;
+
 pub const SIDE_WORDS: usize = SIDE_SLOTS * SLOT_WORDS;
+
 pub const STATE_WORDS: usize = REGISTER_WORDS + 2 * SIDE_WORDS;
 
 // The bytes of an answer.
@@ -145,7 +161,7 @@ pub enum Command {
         side: u8,
         selector: u8,
         flags: u8,
-        address: u64,
+        address: VirtualAddress,
     },
     DemapContext {
         strand: u8,
@@ -208,12 +224,14 @@ pub enum Trap {
     DataProtection,
 }
 
-// The operands of an access, its address already the one used.
+// The operands of an access with what they pick: its side, the selected context, and the address used.
 pub struct Access {
     pub strand: u8,
     pub kind: u8,
+    pub side: u8,
     pub selector: u8,
     pub size: u8,
+    pub context: u64,
     pub used: VirtualAddress,
 }
 

@@ -1,6 +1,6 @@
 -- What the code that acts may rely on: the operands of a command that passed its questions, and an entry displaced from a sound side.
 -- Assumes nothing.
-use Prim.Native.Nat.{_<_}
+use Prim.Native.Nat.{ℕ, _<_}
 use mathlib.Core.Path.{_≡_}
 use mathlib.Core.Bool.{true}
 use mathlib.Core.List.{List}
@@ -12,8 +12,10 @@ use Rattle.machine.specs.Slots.{isLive}
 use Rattle.machine.specs.Insertion.{candidate, placed}
 use Rattle.machine.specs.Sound.{slotSound, sideSound}
 use Rattle.machine.specs.Registers.{known, writable}
-use Rattle.machine.specs.State.{State}
+use Rattle.machine.specs.State.{counts, State, stateIn}
 use Rattle.machine.specs.Questions.{asked, verdict}
+use Rattle.machine.specs.Access.{accessOf}
+use Rattle.machine.specs.declared.VirtualAddress.{VirtualAddress}
 use Rattle.machine.specs.declared.Slot.{Slot}
 use Rattle.machine.specs.declared.Placed.{Placed}
 use Rattle.machine.specs.declared.Placed.the-variants.{Done, Displaced, Refused}
@@ -24,54 +26,53 @@ use Rattle.machine.proofs.Insertion.{PlacedSays, placed-says}
 use Rattle.machine.proofs.Sound.{live-parts, sound-slot}
 use Rattle.machine.proofs.Sides.{aligned}
 use Rattle.machine.proofs.Commands.{range-fits}
-use Rattle.machine.proofs.State.{passed-asked, known-below, writable-below}
-use Rattle.mmu.specs.Fits.{PlaceFits}
+use Rattle.machine.proofs.State.{passed-asked, known-below, writable-below, kind-side, strand-sound, sound-registers}
+use Rattle.state.specs.Calls.{SoundIn}
+use Rattle.access.specs.Fits.{AccessFits}
+use Rattle.mmu.specs.Fits.{PlaceFits, OperandsFit}
 
 ruleset conj = (and-left, and-right, eqb-true, ltb-true)
 
--- strands, sides and registers within the state
-abbrev pub Within : Command → Type 0
-Within (command.Write strand number value) = (strand < 4) × (number < 32)
-Within (command.Insert strand side flags word) = (strand < 4) × (side < 2)
-Within (command.DemapPage strand side selector flags address) = (strand < 4) × (side < 2)
-Within (command.DemapContext strand side selector) = (strand < 4) × (side < 2)
-Within (command.DemapAll strand side) = (strand < 4) × (side < 2)
-Within (command.Invalidate side) = side < 2
-Within (command.Access strand kind selector size address) = (strand < 4) × (size < 4)
-Within (command.Read strand number) = (strand < 4) × (number < 32)
-Within (command.Pointers strand side) = (strand < 4) × (side < 2)
-
-pub passed-within : (u : State) (c : Command) → verdict u c ≡ Passed → Within c
+pub passed-fit : (u : State) (c : Command) → verdict u c ≡ Passed → OperandsFit c
 unfolding asked allOf
-passed-within u (command.Write strand number value) v =
+passed-fit u (command.Write strand number value) v =
     let q = passed-asked u (command.Write strand number value) v in
     let w : writable number ≡ true = search conj in
     (search conj, omega (arith, writable-below number w))
-passed-within u (command.Insert strand side flags word) v =
+passed-fit u (command.Insert strand side flags word) v =
     let q = passed-asked u (command.Insert strand side flags word) v in
     (search conj, search conj)
-passed-within u (command.DemapPage strand side selector flags address) v =
+passed-fit u (command.DemapPage strand side selector flags address) v =
     let q = passed-asked u (command.DemapPage strand side selector flags address) v in
     (search conj, search conj)
-passed-within u (command.DemapContext strand side selector) v =
+passed-fit u (command.DemapContext strand side selector) v =
     let q = passed-asked u (command.DemapContext strand side selector) v in
     (search conj, search conj)
-passed-within u (command.DemapAll strand side) v =
+passed-fit u (command.DemapAll strand side) v =
     let q = passed-asked u (command.DemapAll strand side) v in
     (search conj, search conj)
-passed-within u (command.Invalidate side) v =
+passed-fit u (command.Invalidate side) v =
     let q = passed-asked u (command.Invalidate side) v in
     search conj
-passed-within u (command.Access strand kind selector size address) v =
+passed-fit u (command.Access strand kind selector size address) v =
     let q = passed-asked u (command.Access strand kind selector size address) v in
     (search conj, search conj)
-passed-within u (command.Read strand number) v =
+passed-fit u (command.Read strand number) v =
     let q = passed-asked u (command.Read strand number) v in
     let k : known number ≡ true = search conj in
     (search conj, omega (arith, known-below number k))
-passed-within u (command.Pointers strand side) v =
+passed-fit u (command.Pointers strand side) v =
     let q = passed-asked u (command.Pointers strand side) v in
     (search conj, search conj)
+
+-- an access of a sound state's strand is one that the unit has
+pub access-fits : (words : List ℕ) (strand kind selector size : ℕ) (address : VirtualAddress) → SoundIn words → strand < 4
+    → AccessFits (accessOf (stateIn words .registers) strand kind selector size address)
+access-fits words strand kind selector size address h s = record {
+  strands = s;
+  sides = kind-side kind;
+  contexts = strand-sound _ strand (sound-registers counts (stateIn words) h) s .contexts selector;
+}
 
 -- a page starts at a multiple of 2^13, so its context fits beside it
 pub place-fits : (new : Slot) (s : List Slot) → sideSound s ≡ true → PlaceFits (placed candidate new s)

@@ -1,16 +1,12 @@
 // One command on the state: its questions, then what it does and answers.
 ghost use mathlib.Core.Path.{_≡_};
-ghost use mathlib.Core.Bool.{cond};
-ghost use Prim.Native.Nat.{_+_, _*_, _^_, _<_};
-ghost use Rattle.machine.specs.Words.{bits};
+ghost use Prim.Native.Nat.{_+_, _^_, _<_};
 ghost use Rattle.machine.specs.Slots.{contextOf};
 ghost use Rattle.machine.specs.State.{stateIn};
 ghost use Rattle.state.specs.Calls.{Lent, SoundIn, Did};
-ghost use Rattle.machine.specs.Step.{displacedOf, placedAnswer, demap, tsbOffset, tsbPointer, pointer, act, step};
+ghost use Rattle.machine.specs.Step.{displacedOf, placedAnswer, demap, act, step};
 ghost use Rattle.machine.specs.declared.Command.the-variants as command;
 ghost use Rattle.mmu.specs.Fits.{PlaceFits, Ready};
-ghost use lib.Dec.{eqb};
-use machine::Access;
 use machine::Answer;
 use machine::Command;
 use machine::Displaced;
@@ -65,56 +61,6 @@ fn act_demap(state: &mut [u64], side: u8, which: Removal) -> Answer
     Answer::Done(state::remove_side(state, side, which))
 }
 
-// Where in its TSB the entry of an address stands.
-fn offset_in_tsb(n: u64, code: u64, address: u64) -> u64
-    requires { ⌜ n < 16 ⌝ }
-    ensures { λ r. ⌜ r ≡ tsbOffset n code address ⌝ }
-{
-    16 * ((address >> pages::page_shift(code)) % (512 << n))
-}
-
-// A TSB pointer from a base register.
-fn tsb_pointer(base: u64, code: u64, address: u64) -> u64
-    ensures { λ r. ⌜ r ≡ tsbPointer base code address ⌝ }
-{
-    let n = base % 16;
-    let shift = 13 + n;
-    (base >> shift << shift) + offset_in_tsb(n, code, address)
-}
-
-// 1 where a context is not zero: it picks among the base and configuration registers.
-fn other_set(context: u64) -> u8
-    ensures { λ r. ⌜ (r ≡ cond (eqb context 0) 0 1) × (r < 2) ⌝ }
-{
-    if context == 0 {
-        return 0;
-    }
-    1
-}
-
-// A side's pointer: size 0 is ps0, 1 is ps1. The context of tag access picks the registers.
-fn pointer_of(state: &[u64], strand: u8, side: u8, size: u8) -> u64
-    requires { ⌜ Lent (now state) × (strand < 4) × (side < 2) × (size < 2) ⌝ }
-    ensures { λ r. ⌜ r ≡ pointer (stateIn (now (state .entry)) .registers) strand side size ⌝ }
-{
-    let tag = operands::tag_of(state, strand, side);
-    let other = other_set(tag % 0x2000);
-    let base = state::read_register(state, strand, 8 + 4 * side + 2 * other + size);
-    let configuration = state::read_register(state, strand, 16 + 2 * side + other);
-    tsb_pointer(base, size_code(configuration, size), tag / 0x2000 * 0x2000)
-}
-
-// A configuration's size code.
-fn size_code(configuration: u64, size: u8) -> u64
-    requires { ⌜ size < 2 ⌝ }
-    ensures { λ r. ⌜ r ≡ bits (8 * size) 3 configuration ⌝ }
-{
-    if size == 0 {
-        return configuration % 8;
-    }
-    (configuration >> 8) % 8
-}
-
 // What each command does that passed its questions.
 fn act_write(state: &mut [u64], strand: u8, number: u8, value: u64) -> Answer
     requires { ⌜ Ready (now state) (command.Write strand number value) ⌝ }
@@ -131,15 +77,15 @@ fn act_demap_page(
     side: u8,
     selector: u8,
     flags: u8,
-    address: u64,
+    address: VirtualAddress,
 ) -> Answer
     requires { ⌜ Ready (now state) (command.DemapPage strand side selector flags address) ⌝ }
     ensures { λ r. ⌜ Did (now (state .exit)) r
         (act (stateIn (now (state .entry))) (command.DemapPage strand side selector flags address)) ⌝ }
 {
-    let partition = state::read_register(state, strand, 0);
+    let partition = state::read_register(state, strand, machine::PARTITION);
     let context = operands::selected_context(state, strand, selector);
-    let key = operands::key_for(flags % 2 == 1, partition, context, address);
+    let key = operands::key_for(operands::flag_real(flags), partition, context, address);
     act_demap(state, side, Removal::Page(key))
 }
 
@@ -148,30 +94,17 @@ fn act_demap_context(state: &mut [u64], strand: u8, side: u8, selector: u8) -> A
     ensures { λ r. ⌜ Did (now (state .exit)) r
         (act (stateIn (now (state .entry))) (command.DemapContext strand side selector)) ⌝ }
 {
-    let partition = state::read_register(state, strand, 0);
+    let partition = state::read_register(state, strand, machine::PARTITION);
     let context = operands::selected_context(state, strand, selector);
-    act_demap(
-        state,
-        side,
-        Removal::Context {
-            partition: partition,
-            context: context,
-        },
-    )
+    act_demap(state, side, Removal::Context { partition, context })
 }
 
 fn act_demap_all(state: &mut [u64], strand: u8, side: u8) -> Answer
     requires { ⌜ Ready (now state) (command.DemapAll strand side) ⌝ }
     ensures { λ r. ⌜ Did (now (state .exit)) r (act (stateIn (now (state .entry))) (command.DemapAll strand side)) ⌝ }
 {
-    let partition = state::read_register(state, strand, 0);
-    act_demap(
-        state,
-        side,
-        Removal::Unlocked {
-            partition: partition,
-        },
-    )
+    let partition = state::read_register(state, strand, machine::PARTITION);
+    act_demap(state, side, Removal::Unlocked { partition })
 }
 
 // No count is answered.
@@ -196,18 +129,8 @@ fn act_access(
     ensures { λ r. ⌜ Did (now (state .exit)) r
         (act (stateIn (now (state .entry))) (command.Access strand kind selector size address)) ⌝ }
 {
-    let used = access::used_address(state, strand, address);
-    access::access_to(
-        state,
-        hints,
-        Access {
-            strand: strand,
-            kind: kind,
-            selector: selector,
-            size: size,
-            used: used,
-        },
-    )
+    let a = access::access_of(state, strand, kind, selector, size, address);
+    access::access_to(state, hints, a)
 }
 
 fn act_read(state: &[u64], strand: u8, number: u8) -> Answer
@@ -222,8 +145,8 @@ fn act_pointers(state: &[u64], strand: u8, side: u8) -> Answer
     ensures { λ r. ⌜ r ≡ act (stateIn (now (state .entry))) (command.Pointers strand side) .answer ⌝ }
 {
     Answer::Read(
-        pointer_of(state, strand, side, 0),
-        pointer_of(state, strand, side, 1),
+        tsb::pointer_of(state, strand, side, 0),
+        tsb::pointer_of(state, strand, side, 1),
     )
 }
 

@@ -1,13 +1,10 @@
 // Questions 5 to 13, asked on the state as it is before a command acts: document 01, "Questions before a command acts".
 ghost use mathlib.Core.Path.{_≡_};
 ghost use Prim.Native.Nat.{_<_};
-ghost use mathlib.Core.List.{[], _∷_};
-ghost use lib.Dec.{ltb};
 ghost use Rattle.machine.specs.State.{stateIn};
 ghost use Rattle.state.specs.Calls.{Lent};
-ghost use Rattle.machine.specs.Questions.{selectorFits, nucleusFetch, sizeFits, question, ask, verdict};
+ghost use Rattle.machine.specs.Questions.{selectorFits, nucleusFetch, sizeFits, verdict};
 ghost use Rattle.machine.specs.declared.Command.the-variants as command;
-ghost use Rattle.machine.specs.declared.Refusal.the-variants as refusal;
 use machine::Command;
 use machine::Refusal;
 use machine::Verdict;
@@ -17,26 +14,14 @@ use machine::VirtualAddress;
 fn selector_fits(side: u8, selector: u8) -> bool
     ensures { λ r. ⌜ r ≡ selectorFits side selector ⌝ }
 {
-    if 3 <= selector {
-        return false;
-    }
-    if side != 0 {
-        return true;
-    }
-    selector != 1
+    selector < 3 && !(side == 0 && selector == 1)
 }
 
 // Number 8: 1, 2, 4 or 8 bytes; a fetch takes 4.
 fn size_fits(kind: u8, size: u8) -> bool
     ensures { λ r. ⌜ r ≡ sizeFits kind size ⌝ }
 {
-    if 4 <= size {
-        return false;
-    }
-    if kind != 0 {
-        return true;
-    }
-    size == 2
+    size < 4 && (kind != 0 || size == 2)
 }
 
 // Number 7: a user's fetch by the nucleus context.
@@ -44,13 +29,8 @@ fn is_nucleus_fetch(state: &[u64], strand: u8, kind: u8, selector: u8) -> bool
     requires { ⌜ Lent (now state) × (strand < 4) ⌝ }
     ensures { λ r. ⌜ r ≡ nucleusFetch (stateIn (now (state .entry)) .registers) strand kind selector ⌝ }
 {
-    if kind != 0 {
-        return false;
-    }
-    if selector != 2 {
-        return false;
-    }
-    state::read_register(state, strand, 3) == 0
+    kind == 0
+        && (selector == 2 && state::read_register(state, strand, machine::MODE) == machine::USER)
 }
 
 fn ask_write(state: &[u64], strand: u8, number: u8, value: u64) -> Verdict
@@ -81,7 +61,7 @@ fn ask_insert(state: &[u64], strand: u8, side: u8, flags: u8, word: u64) -> Verd
     if 4 <= flags {
         return Verdict::Refused(Refusal::Operand);
     }
-    if !pages::in_range(operands::tag_of(state, strand, side) / 0x2000 * 0x2000) {
+    if !pages::in_range(operands::tag_address(operands::tag_of(state, strand, side)).0) {
         return Verdict::Refused(Refusal::Address);
     }
     if !tte::word_insertable(word) {
@@ -103,23 +83,17 @@ fn ask_demap_page(
     side: u8,
     selector: u8,
     flags: u8,
-    address: u64,
+    address: VirtualAddress,
 ) -> Verdict
     ensures { λ r. ⌜ r ≡ verdict (stateIn (now (state .entry))) (command.DemapPage strand side selector flags address) ⌝ }
 {
-    if 4 <= strand {
-        return Verdict::Refused(Refusal::Strand);
-    }
-    if 2 <= side {
-        return Verdict::Refused(Refusal::Side);
-    }
-    if !selector_fits(side, selector) {
-        return Verdict::Refused(Refusal::Selector);
+    if let Verdict::Refused(refusal) = ask_demap_context(state, strand, side, selector) {
+        return Verdict::Refused(refusal);
     }
     if 2 <= flags {
         return Verdict::Refused(Refusal::Operand);
     }
-    if !pages::in_range(address) {
+    if !pages::in_range(address.0) {
         return Verdict::Refused(Refusal::Address);
     }
     Verdict::Passed
@@ -128,11 +102,8 @@ fn ask_demap_page(
 fn ask_demap_context(state: &[u64], strand: u8, side: u8, selector: u8) -> Verdict
     ensures { λ r. ⌜ r ≡ verdict (stateIn (now (state .entry))) (command.DemapContext strand side selector) ⌝ }
 {
-    if 4 <= strand {
-        return Verdict::Refused(Refusal::Strand);
-    }
-    if 2 <= side {
-        return Verdict::Refused(Refusal::Side);
+    if let Verdict::Refused(refusal) = ask_demap_all(state, strand, side) {
+        return Verdict::Refused(refusal);
     }
     if !selector_fits(side, selector) {
         return Verdict::Refused(Refusal::Selector);
@@ -140,9 +111,8 @@ fn ask_demap_context(state: &[u64], strand: u8, side: u8, selector: u8) -> Verdi
     Verdict::Passed
 }
 
-// Demap all and pointers ask the same two.
-fn ask_strand_side(strand: u8, side: u8) -> Verdict
-    ensures { λ r. ⌜ r ≡ ask (question refusal.Strand (ltb strand 4) ∷ question refusal.Side (ltb side 2) ∷ []) ⌝ }
+fn ask_demap_all(state: &[u64], strand: u8, side: u8) -> Verdict
+    ensures { λ r. ⌜ r ≡ verdict (stateIn (now (state .entry))) (command.DemapAll strand side) ⌝ }
 {
     if 4 <= strand {
         return Verdict::Refused(Refusal::Strand);
@@ -232,7 +202,7 @@ pub fn question(state: &[u64], command: Command) -> Verdict
             side,
             selector,
         } => ask_demap_context(state, strand, side, selector),
-        Command::DemapAll { strand, side } => ask_strand_side(strand, side),
+        Command::DemapAll { strand, side } => ask_demap_all(state, strand, side),
         Command::Invalidate { side } => ask_invalidate(state, side),
         Command::Access {
             strand,
@@ -242,6 +212,7 @@ pub fn question(state: &[u64], command: Command) -> Verdict
             address,
         } => ask_access(state, strand, kind, selector, size, address),
         Command::Read { strand, register } => ask_read(state, strand, register),
-        Command::Pointers { strand, side } => ask_strand_side(strand, side),
+        // Pointers ask what a demap all asks.
+        Command::Pointers { strand, side } => ask_demap_all(state, strand, side),
     }
 }

@@ -1,12 +1,12 @@
 // The state as lent words: 128 register cells, then side 0, then side 1, 64 slots each.
 ghost use mathlib.Core.Path.{_≡_};
 ghost use Prim.Native.Nat.{_+_, _*_, _<_};
-ghost use lib.ListN.{length, getD};
+ghost use lib.ListN.{getD};
 ghost use Rattle.laws.specs.Tests.{count};
 ghost use Rattle.machine.specs.Slots.{noSlot, search, setUsed};
 ghost use Rattle.machine.specs.Insertion.{removed, removes, candidate, inserted, placed, hasSlot};
 ghost use Rattle.machine.specs.Registers.{register, withRegister};
-ghost use Rattle.machine.specs.State.{counts, stateIn, encode, sideOf, withSide, withRegisters, sound, wordsSound, resetOf, resetNumber};
+ghost use Rattle.machine.specs.State.{counts, stateIn, encode, sideOf, withSide, withRegisters, wordsSound, resetOf, resetNumber};
 ghost use Rattle.state.specs.Calls.{Lent, SoundIn};
 ghost use Rattle.state.specs.Reset.{resetWord};
 use laws::Found;

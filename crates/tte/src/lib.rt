@@ -4,6 +4,7 @@ ghost use mathlib.Core.Bool.{true};
 ghost use Rattle.machine.specs.Words.{unpacked, packed, fields, wordSound, wordInsertable, frame, physicalAt};
 use machine::PhysicalAddress;
 use machine::Tte;
+use machine::VirtualAddress;
 
 // All fields of an entry word. Packed again they are the word.
 pub fn unpack(word: u64) -> Tte
@@ -70,9 +71,9 @@ pub fn page_frame(word: u64) -> PhysicalAddress
 }
 
 // The physical address of an address in a word's page.
-pub fn physical_address(word: u64, address: u64) -> PhysicalAddress
+pub fn physical_address(word: u64, address: VirtualAddress) -> PhysicalAddress
     ensures { λ r. ⌜ r ≡ physicalAt word address ⌝ }
 {
     let start = page_frame(word);
-    PhysicalAddress(start.0 + pages::page_offset(word % 16, address))
+    PhysicalAddress(start.0 + pages::page_offset(word % 16, address.0))
 }

@@ -7,14 +7,11 @@ use native.Mathlib.Numerals.{towards-suc, add-one}
 use lib.ListN.{set, replicate}
 use lib.Seq.{sets}
 use Rattle.laws.proofs.Stores.{sets-append}
-use Rattle.laws.specs.Tests.{tick}
-use Rattle.machine.specs.Access.{trapNumber, trapFault}
-use Rattle.machine.specs.Questions.{refusalNumber}
-use Rattle.machine.specs.Stream.{Bytes, bytes, answerOf, answerBytes}
+use Rattle.machine.specs.Stream.{Bytes, bytes, fieldsOf, answerBytes}
 use Rattle.machine.specs.declared.Answer.{Answer}
 use Rattle.machine.specs.declared.Answer.the-variants as answer
-use Rattle.wire.specs.Wire.{headOf, fieldsOf}
-use Rattle.wire.specs.declared.Fields.{Fields}
+use Rattle.wire.specs.Wire.{headOf, answerWords}
+use Rattle.wire.specs.declared.AnswerWords.{AnswerWords}
 
 -- the eight stores of a value, as the code has them
 pub value-stores : (l : Bytes) (i v : ℕ) →
@@ -41,24 +38,27 @@ head-bytes kind a b c h =
     both (omega arith) (both (omega arith) (both (omega arith) (both (omega arith)
     (both (omega arith) (both (omega arith) (both (omega arith) (both (omega arith) refl)))))))
 
-answer-of : (kind a b c v w : ℕ) → kind < 256 → bytes (headOf kind a b c) ++ (bytes v ++ bytes w) ≡ answerOf kind a b c v w
-answer-of kind a b c v w h = ap (λ (t : Bytes). t ++ (bytes v ++ bytes w)) (head-bytes kind a b c h)
+-- a kind is a byte
+kind-small : (a : Answer) → fieldsOf a .kind < 256
+kind-small (answer.Done n) = omega arith
+kind-small (answer.Physical t) = omega arith
+kind-small (answer.Trap t) = omega arith
+kind-small (answer.Read v w) = omega arith
+kind-small (answer.Displaced d) = omega arith
+kind-small (answer.Refused r) = omega arith
 
 -- the bytes of an answer's three words are the answer's
-answer-words : (a : Answer) → bytes (fieldsOf a .head) ++ (bytes (fieldsOf a .first) ++ bytes (fieldsOf a .second)) ≡ answerBytes a
+answer-bytes : (a : Answer) → let f = fieldsOf a in bytes (answerWords f .head) ++ (bytes (f .first) ++ bytes (f .second)) ≡ answerBytes a
 unfolding answerBytes
-answer-words (answer.Done n) = answer-of 0 0 0 0 n 0 (omega arith)
-answer-words (answer.Physical t) = answer-of 1 (t .attributes) 0 0 (t .address .0) 0 (omega arith)
-answer-words (answer.Trap t) = answer-of 2 (trapNumber (t .trap)) (trapFault (t .trap)) 0 (t .address .0) (t .tag) (omega arith)
-answer-words (answer.Read v w) = answer-of 3 0 0 0 v w (omega arith)
-answer-words (answer.Displaced d) = answer-of 4 0 (d .partition) (tick (d .real)) (d .place) (d .word) (omega arith)
-answer-words (answer.Refused r) = answer-of 5 (refusalNumber r) 0 0 0 0 (omega arith)
+answer-bytes a =
+    let f = fieldsOf a in
+    ap (λ (t : Bytes). t ++ (bytes (f .first) ++ bytes (f .second))) (head-bytes (f .kind) (f .a) (f .b) (f .c) (kind-small a))
 
 -- three words stored one after the other are the answer
-pub answer-stores : (l : Bytes) (at : ℕ) (a : Answer) {x y z : Bytes} {f : Fields} → f ≡ fieldsOf a →
+pub answer-stores : (l : Bytes) (at : ℕ) (a : Answer) {x y z : Bytes} {f : AnswerWords} → f ≡ answerWords (fieldsOf a) →
     x ≡ sets l at (bytes (f .head)) → y ≡ sets x (at + 8) (bytes (f .first)) → z ≡ sets y (at + 16) (bytes (f .second)) →
     z ≡ sets l at (answerBytes a)
 answer-stores l at a {x} {y} {z} {f} e p q r =
-    let f₀ = fieldsOf a in
+    let f₀ = answerWords (fieldsOf a) in
     let k : at + 8 + 8 ≡ at + 16 = omega arith in
-    r ∙ rw (q, p, e, ← (answer-words a), sets-append (bytes (f₀ .head)), sets-append (bytes (f₀ .first)), k)
+    r ∙ rw (q, p, e, ← (answer-bytes a), sets-append (bytes (f₀ .head)), sets-append (bytes (f₀ .first)), k)

@@ -1,27 +1,25 @@
--- The command at a position: read at the front of the rest, and told by its width. Assumes nothing.
-use Prim.Native.Nat.{ℕ, _+_, _*_, _≤_}
-use mathlib.Core.Bool.{cond}
-use mathlib.Core.Path.{_≡_, refl, sym, _∙_}
+-- The command at a position: read at the front of the rest, told by its width, and which bytes begin which. Assumes nothing.
+use Prim.Native.Nat.{ℕ, _+_, _*_, _-_, _≤_}
+use mathlib.Core.Bool.{Bool, true, false, cond}
+use mathlib.Core.Path.{_≡_, sym, _∙_}
 use native.Mathlib.Nat.{add-zero, add-assoc, sub-zero}
 use native.Mathlib.Omega.{arith}
-use borrow.Author.Tests.{eqb-true}
-use lib.Dec.{eqb, ltb}
+use borrow.Author.Tests.{ne-eqb}
+use lib.Dec.{T, eqb, leb, ltb, lit≤}
 use lib.ListN.{length, drop, length-drop, drop-of-length-le}
 use lib.Seq.{getD-drop}
-use Rattle.laws.proofs.Bools.{by-test}
-use Rattle.machine.specs.Stream.{Bytes, byte, four, eight, decodeAt}
-use Rattle.machine.specs.declared.Decoded.{Decoded}
+use Rattle.machine.specs.Stream.{Bytes, byte, four, eight, widthOf, commandAt, decodeAt}
 use Rattle.machine.specs.declared.Decoded.the-variants.{Known, Stop}
-use Rattle.wire.specs.Wire.{widthOf, commandOf}
+use Rattle.wire.specs.Wire.{Whole}
 
 -- a command is read where it stands as at the front of the rest
 pub decode-rest : (s : Bytes) (at : ℕ) → decodeAt (drop at s) 0 ≡ decodeAt s at
-unfolding decodeAt eight
+unfolding decodeAt commandAt eight
 decode-rest s at = simp (getD-drop, length-drop, add-zero, add-assoc, sub-zero)
 
 -- past the end there is none
 pub decode-past : (s : Bytes) (at : ℕ) → length s ≤ at → decodeAt s at ≡ Stop 2
-unfolding decodeAt
+unfolding decodeAt widthOf
 decode-past s at h = sym (decode-rest s at) ∙ rw (drop-of-length-le s)
 
 -- four bytes, each at its place
@@ -29,36 +27,34 @@ pub four-sum : (s : Bytes) (i : ℕ) → four s i ≡ byte s i * 16777216 + byte
 four-sum s i = let e : i + 2 + 1 ≡ i + 3 = omega arith in rw e (omega arith)
 
 -- a byte that is known tells how far the bytes reach
-pub reach : {b k n : ℕ} → b ≡ k → widthOf b ≤ n → widthOf k ≤ n
-reach e h = rw e at h
+pub reach : {s : Bytes} {k : ℕ} → byte s 0 ≡ k → Whole s → widthOf k ≤ length s
+reach e w = rw e at (w .there)
 
--- what bytes begin with, by the width that the first of them tells
-abbrev shown : Bytes → ℕ → Decoded
-shown s width =
-    cond (eqb width 0) (Stop 2)
-    (cond (ltb (length s) width) (Stop 3) (Known (commandOf s) width))
+-- what no arm of a match took: a byte that is neither of these begins a short command ..
+pub short-width : (b : ℕ) → (b ≡ 1 → ⊥) → (b ≡ 2 → ⊥) → (b ≡ 3 → ⊥) → (b ≡ 7 → ⊥) → widthOf b ≤ 4
+unfolding widthOf
+short-width b n1 n2 n3 n7 =
+    simp (ne-eqb b 1 n1, ne-eqb b 2 n2, ne-eqb b 3 n3, ne-eqb b 7 n7)
+    (arm (eqb b 4) 4 tt (arm (eqb b 5) 3 tt (arm (eqb b 6) 2 tt (arm (eqb b 8) 3 tt (arm (eqb b 9) 3 tt (omega arith))))))
+  where
+    arm : (t : Bool) (width : ℕ) {other : ℕ} → T (leb width 4) → other ≤ 4 → cond t width other ≤ 4
+    arm true width h o = lit≤ h
+    arm false width h o = o
 
--- .. is what is decoded there; and a command has two bytes at least
-abbrev pub Told : Bytes → ℕ → Type 0
-Told s width = (decodeAt s 0 ≡ shown s width) × ((width ≡ 0 → ⊥) → 2 ≤ width)
+-- .. and of the short ones there are no others
+pub no-other : (b : ℕ) → (b ≡ 4 → ⊥) → (b ≡ 5 → ⊥) → (b ≡ 8 → ⊥) → (b ≡ 9 → ⊥) → (b ≡ 6 → ⊥) → 2 ≤ widthOf b → widthOf b ≤ 4 → ⊥
+unfolding widthOf
+no-other b n4 n5 n8 n9 n6 =
+    simp (ne-eqb b 4 n4, ne-eqb b 5 n5, ne-eqb b 6 n6, ne-eqb b 8 n8, ne-eqb b 9 n9)
+    (arm (eqb b 1) 11 tt (arm (eqb b 2) 12 tt (arm (eqb b 3) 13 tt (arm (eqb b 7) 13 tt (λ l h. omega arith)))))
+  where
+    arm : (t : Bool) (width : ℕ) {other : ℕ} → T (leb 5 width) → (2 ≤ other → other ≤ 4 → ⊥)
+        → 2 ≤ cond t width other → cond t width other ≤ 4 → ⊥
+    arm true width l o m h = let long : 5 ≤ width = lit≤ l in omega arith
+    arm false width l o m h = o m h
 
--- the law of widths: one case for each command, and one for a byte that is none of theirs
-pub decode-shown : (s : Bytes) (width : ℕ) → width ≡ widthOf (byte s 0) → Told s width
+-- by the width that the byte at a position tells
+pub decode-told : (s : Bytes) (at width : ℕ) → width ≡ widthOf (byte s at)
+    → decodeAt s at ≡ cond (eqb width 0) (Stop 2) (cond (ltb (length s - at) width) (Stop 3) (Known (commandAt s at) width))
 unfolding decodeAt
-decode-shown s width told =
-    let b : ℕ = byte s 0 in
-    simp (told, sub-zero) (by-test (eqb b 1)
-    (λ e. rw (eqb-true b 1 e) (refl, λ n. omega arith)) (λ n1. by-test (eqb b 2)
-    (λ e. rw (eqb-true b 2 e) (refl, λ n. omega arith)) (λ n2. by-test (eqb b 3)
-    (λ e. rw (eqb-true b 3 e) (refl, λ n. omega arith)) (λ n3. by-test (eqb b 4)
-    (λ e. rw (eqb-true b 4 e) (refl, λ n. omega arith)) (λ n4. by-test (eqb b 5)
-    (λ e. rw (eqb-true b 5 e) (refl, λ n. omega arith)) (λ n5. by-test (eqb b 6)
-    (λ e. rw (eqb-true b 6 e) (refl, λ n. omega arith)) (λ n6. by-test (eqb b 7)
-    (λ e. rw (eqb-true b 7 e) (refl, λ n. omega arith)) (λ n7. by-test (eqb b 8)
-    (λ e. rw (eqb-true b 8 e) (refl, λ n. omega arith)) (λ n8. by-test (eqb b 9)
-    (λ e. rw (eqb-true b 9 e) (refl, λ n. omega arith)) (λ n9.
-    simp (n1, n2, n3, n4, n5, n6, n7, n8, n9) (refl, λ n. absurd (n refl))))))))))))
-
--- .. and of a position, by the width that its byte tells
-pub decode-told : (s : Bytes) (at width : ℕ) → width ≡ widthOf (byte s at) → decodeAt s at ≡ shown (drop at s) width
-decode-told s at width told = sym (decode-rest s at) ∙ decode-shown (drop at s) width (told ∙ rw (getD-drop, add-zero)) .0
+decode-told s at width e = rw e

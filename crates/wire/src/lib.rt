@@ -4,9 +4,9 @@ ghost use Prim.Native.Nat.{_+_, _<_, _≤_};
 ghost use lib.ListN.{length};
 ghost use lib.Seq.{sets};
 ghost use Rattle.laws.specs.Tests.{tick};
-ghost use Rattle.machine.specs.Stream.{byte as byteOf, four, eight, decodeAt, bytes, answerBytes};
+ghost use Rattle.machine.specs.Stream.{byte as byteOf, four, eight, widthOf, commandAt, decodeAt, bytes, fieldsOf, answerBytes};
 ghost use Rattle.machine.specs.declared.Answer.the-variants.{Trap as TrapAnswer};
-ghost use Rattle.wire.specs.Wire.{widthOf, shortOf, commandOf, stopOf, fullStopOf, headOf, fieldsOf};
+ghost use Rattle.wire.specs.Wire.{Whole, stopOf, fullStopOf, headOf, answerWords};
 use machine::Answer;
 use machine::Command;
 use machine::Decoded;
@@ -59,8 +59,8 @@ fn command_width(byte: u8) -> usize
 
 // A command of one-byte operands alone. No command takes the arm `_`: with all nine told apart the compiler asks the byte's range once.
 fn short_command(rest: &[u8]) -> Command
-    requires { ⌜ (2 ≤ length (now rest)) × (widthOf (byteOf (now rest) 0) ≤ length (now rest)) ⌝ }
-    ensures { λ r. ⌜ r ≡ shortOf (now (rest .entry)) ⌝ }
+    requires { ⌜ Whole (now rest) × (widthOf (byteOf (now rest) 0) ≤ 4) ⌝ }
+    ensures { λ r. ⌜ r ≡ commandAt (now (rest .entry)) 0 ⌝ }
 {
     let first = rest[1];
     match rest[0] {
@@ -88,8 +88,8 @@ fn short_command(rest: &[u8]) -> Command
 
 // The command at the front of the rest, all its bytes there.
 fn known_command(rest: &[u8]) -> Command
-    requires { ⌜ (2 ≤ length (now rest)) × (widthOf (byteOf (now rest) 0) ≤ length (now rest)) ⌝ }
-    ensures { λ r. ⌜ r ≡ commandOf (now (rest .entry)) ⌝ }
+    requires { ⌜ Whole (now rest) ⌝ }
+    ensures { λ r. ⌜ r ≡ commandAt (now (rest .entry)) 0 ⌝ }
 {
     match rest[0] {
         1 => Command::Write {
@@ -108,7 +108,7 @@ fn known_command(rest: &[u8]) -> Command
             side: rest[2],
             selector: rest[3],
             flags: rest[4],
-            address: eight_bytes(rest, 5),
+            address: VirtualAddress(eight_bytes(rest, 5)),
         },
         7 => Command::Access {
             strand: rest[1],
@@ -196,7 +196,7 @@ pub fn stop_without_room(input: &[u8], at: usize) -> u8
 // ---- answers
 
 // The bytes of an answer as three words, big-endian.
-pub struct Fields {
+pub struct AnswerWords {
     pub head: u64,
     pub first: u64,
     pub second: u64,
@@ -220,43 +220,43 @@ fn head_word(kind: u64, a: u64, b: u64, c: u64) -> u64
 }
 
 // An answer as its words.
-fn trap_fields(t: Trapped) -> Fields
-    ensures { λ r. ⌜ r ≡ fieldsOf (TrapAnswer t) ⌝ }
+fn trap_words(t: Trapped) -> AnswerWords
+    ensures { λ r. ⌜ r ≡ answerWords (fieldsOf (TrapAnswer t)) ⌝ }
 {
     let trap = t.trap;
-    Fields {
+    AnswerWords {
         head: head_word(2, numbers::trap_number(trap), numbers::trap_fault(trap), 0),
         first: t.address.0,
         second: t.tag,
     }
 }
 
-fn fields_of(answer: Answer) -> Fields
-    ensures { λ r. ⌜ r ≡ fieldsOf answer ⌝ }
+fn words_of(answer: Answer) -> AnswerWords
+    ensures { λ r. ⌜ r ≡ answerWords (fieldsOf answer) ⌝ }
 {
     match answer {
-        Answer::Done(count) => Fields {
+        Answer::Done(count) => AnswerWords {
             head: head_word(0, 0, 0, 0),
             first: count,
             second: 0,
         },
-        Answer::Physical(t) => Fields {
+        Answer::Physical(t) => AnswerWords {
             head: head_word(1, t.attributes, 0, 0),
             first: t.address.0,
             second: 0,
         },
-        Answer::Trap(t) => trap_fields(t),
-        Answer::Read(first, second) => Fields {
+        Answer::Trap(t) => trap_words(t),
+        Answer::Read(first, second) => AnswerWords {
             head: head_word(3, 0, 0, 0),
             first,
             second,
         },
-        Answer::Displaced(d) => Fields {
+        Answer::Displaced(d) => AnswerWords {
             head: head_word(4, 0, d.partition, bit(d.real)),
             first: d.place,
             second: d.word,
         },
-        Answer::Refused(refusal) => Fields {
+        Answer::Refused(refusal) => AnswerWords {
             head: head_word(5, numbers::refusal_number(refusal), 0, 0),
             first: 0,
             second: 0,
@@ -309,8 +309,8 @@ pub fn put_answer(output: &mut [u8], at: usize, answer: Answer)
     requires { ⌜ at + 24 ≤ length (now output) ⌝ }
     ensures { λ r. ⌜ now (output .exit) ≡ sets (now (output .entry)) at (answerBytes answer) ⌝ }
 {
-    let fields = fields_of(answer);
-    put_eight(output, at, fields.head);
-    put_eight(output, at + 8, fields.first);
-    put_eight(output, at + 16, fields.second);
+    let words = words_of(answer);
+    put_eight(output, at, words.head);
+    put_eight(output, at + 8, words.first);
+    put_eight(output, at + 16, words.second);
 }

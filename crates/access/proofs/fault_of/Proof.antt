@@ -1,7 +1,7 @@
 -- `access::fault_of` meets its contract.
 use Prim.Native.Nat.{ℕ}
 use mathlib.Core.Path.{_≡_, sym, _∙_}
-use mathlib.Core.Bool.{Bool, true, not, _&&_}
+use mathlib.Core.Bool.{true, not, _&&_}
 use native.Mathlib.Omega.{arith}
 use lib.Dec.{eqb}
 use borrow.Author.Needs.{needs}
@@ -9,23 +9,21 @@ use borrow.Author.Tests.{eqb-true, not-true}
 use Rattle.laws.proofs.Bools.{and-left, and-right, and-no}
 use Rattle.machine.specs.Words.{bits}
 use Rattle.machine.specs.Access.{faultType}
+use Rattle.access.specs.Faults.{isSet, faultless}
 use Rattle.access.proofs.fault_of.Statement.{statement}
 use Rattle.access.proofs.fault_of.Tie as tie
 
-abbrev set : ℕ → ℕ → Bool
-set word k = eqb (bits k 1 word) 1
-
 -- a word that is found faultless earns nothing
-none : (mode kind word : ℕ) → (not (set word 62) && (not (set word 11) && (not (set word 8) && set word 10))) ≡ true → faultType mode kind word ≡ 0
+none : (mode kind word : ℕ) → faultless word ≡ true → faultType mode kind word ≡ 0
 unfolding faultType
 none mode kind word h =
-    let i : (not (set word 11) && (not (set word 8) && set word 10)) ≡ true = and-right (not (set word 62)) _ h in
-    let j : (not (set word 8) && set word 10) ≡ true = and-right (not (set word 11)) _ i in
-    let cp : bits 10 1 word ≡ 1 = eqb-true _ _ (and-right (not (set word 8)) (set word 10) j) in
+    let i : (not (isSet word 11) && (not (isSet word 8) && isSet word 10)) ≡ true = and-right (not (isSet word 62)) _ h in
+    let j : (not (isSet word 8) && isSet word 10) ≡ true = and-right (not (isSet word 11)) _ i in
+    let cp : bits 10 1 word ≡ 1 = eqb-true _ _ (and-right (not (isSet word 8)) (isSet word 10) j) in
     rw (
-      not-true (set word 8) (and-left (not (set word 8)) (set word 10) j),
-      not-true (set word 11) (and-left (not (set word 11)) _ i),
-      not-true (set word 62) (and-left (not (set word 62)) _ h),
+      not-true (isSet word 8) (and-left (not (isSet word 8)) (isSet word 10) j),
+      not-true (isSet word 11) (and-left (not (isSet word 11)) _ i),
+      not-true (isSet word 62) (and-left (not (isSet word 62)) _ h),
       cp,
       and-no (eqb kind 3),
       and-no (eqb kind 4),

@@ -4,13 +4,10 @@ use Rattle.access.proofs.is_user_nucleus.Statement.{statement}
 use Rattle.access.proofs.is_user_nucleus.Tie as tie
 
 returns : tie.Need-returns
-returns c = rw (ne-eqb _ _ (c .if1 .taken))
+returns c = rw (eq-eqb _ _ (c .before .if1 .taken), ne-eqb _ _ (c .if2 .taken))
 
 returns-2 : tie.Need-returns-2
-returns-2 c = rw (eq-eqb _ _ (c .before .if1 .left), eq-eqb _ _ (c .if2 .taken))
-
-returns-3 : tie.Need-returns-3
-returns-3 c = rw (eq-eqb _ _ (c .before .if1 .left), ne-eqb _ _ (c .if2 .left))
+returns-2 c = rw (eq-eqb _ _ (c .before .if1 .taken), eq-eqb _ _ (c .if2 .left))
 
 pub is-user-nucleus-spec : {M : Type 1} → statement M
-is-user-nucleus-spec = tie.close (tie.spec returns returns-2 returns-3)
+is-user-nucleus-spec = tie.close (tie.spec returns returns-2 (λ c. rw (ne-eqb _ _ (c .if1 .left))))

@@ -33,7 +33,7 @@ returns-3 : tie.Need-returns-3
 unfolding judge
 returns-3 c =
     let bit = c .before .before in
-    let two = bit .before .before in
+    let two = bit .before .before .before in
     let one = two .before .before in
     let fault = one .before in (
       rw (

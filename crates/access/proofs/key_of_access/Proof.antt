@@ -5,16 +5,7 @@ use Rattle.access.proofs.key_of_access.Statement.{statement}
 use Rattle.access.proofs.key_of_access.Tie as tie
 
 returns : tie.Need-returns
-returns c =
-    c .key-for .ensures
-    ∙ rw (c .before .before .before .translation-on .ensures, c .before .before .read-register .ensures, c .before .selected-context .ensures)
+returns c = c .key-for .ensures ∙ rw (c .before .before .before .translation-on .ensures, c .before .before .read-register .ensures)
 
 pub key-of-access-spec : {M : Type 1} → statement M
-key-of-access-spec =
-    tie.close
-    (tie.spec
-    (λ c κs. search needs)
-    (λ c κs. search needs)
-    (λ c κs. search needs)
-    (λ c κs. search needs)
-    returns)
+key-of-access-spec = tie.close (tie.spec (λ c κs. search needs) (λ c κs. search needs) (λ c κs. search needs) returns)

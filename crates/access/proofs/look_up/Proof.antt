@@ -3,42 +3,27 @@ use mathlib.Core.Path.{_≡_, sym, _∙_}
 use native.Mathlib.Omega.{arith}
 use borrow.Author.Needs.{needs}
 use Rattle.laws.proofs.Walks.{found-at}
-use Rattle.machine.specs.Questions.{kindSide}
 use Rattle.machine.specs.Slots.{noSlot, answersTo, search as lookup}
-use Rattle.machine.specs.State.{counts, State, stateIn, sideOf}
-use Rattle.machine.proofs.State.{kind-side, sound-registers}
+use Rattle.machine.specs.State.{State, stateIn, sideOf}
 use Rattle.state.proofs.Lent.{side-slots}
 use Rattle.access.proofs.look_up.Statement.{statement}
 use Rattle.access.proofs.look_up.Tie as tie
 
 -- what the search of the access's side found
 found : (c : tie.After-search-hinted)
-    → (let s = c .before .before .before .before .before in
-    lookup (s .args .key) (sideOf (stateIn (s .args .state .now)) (kindSide (s .args .a .kind))) ≡ c .search-hinted .result)
-found c = sym (c .search-hinted .ensures ∙ rw (c .before .access-side .ensures))
-
-search-hinted-requires : tie.Need-search-hinted-requires
-search-hinted-requires c κs =
-    let s = c .before .before .before .before in
-    (s .pre .0, omega (arith, c .access-side .ensures, kind-side (s .args .a .kind)), s .pre .2)
+    → (let s = c .before .before .before .before in
+    lookup (s .args .key) (sideOf (stateIn (s .args .state .now)) (s .args .a .side)) ≡ c .search-hinted .result)
+found c = sym (c .search-hinted .ensures)
 
 settle-hit-requires : tie.Need-settle-hit-requires
 settle-hit-requires c κs =
     let at = c .before .before in
     let look = at .before .before in
-    let s = look .before .before .before .before .before in
+    let s = look .before .before .before .before in
     let u : State = stateIn (s .args .state .now) in
-    let side = kindSide (s .args .a .kind) in
+    let side = s .args .a .side in
     let i = found-at noSlot (answersTo (s .args .key)) (sideOf u side) _ (found look ∙ at .found .given .1) .0 in
-    (s .pre .0, s .pre .1, omega (arith, i, side-slots (s .args .state .now) (s .pre .0) side), sound-registers counts u (s .pre .2))
-
-enum-told : tie.Need-enum-told
-enum-told c = search needs
-
-settle-miss-requires : tie.Need-settle-miss-requires
-settle-miss-requires c κs =
-    let s = c .before .before .before .before .before .before .before .before in
-    (s .pre .0, s .pre .1, sound-registers counts _ (s .pre .2))
+    (s .pre .0, s .pre .1, omega (arith, i, side-slots (s .args .state .now) (s .pre .0) side))
 
 returns : tie.Need-returns
 returns c =
@@ -57,11 +42,10 @@ look-up-spec =
     tie.close
     (tie.spec
     (λ c κs. search needs)
-    search-hinted-requires
     (λ c. search needs)
     settle-hit-requires
-    enum-told
-    settle-miss-requires
+    (λ c. search needs)
+    (λ c κs. search needs)
     (λ c. search needs)
     returns
     (λ c. search needs)

@@ -3,15 +3,10 @@ use borrow.Author.Needs.{needs}
 use Rattle.access.proofs.take_tagged.Statement.{statement}
 use Rattle.access.proofs.take_tagged.Tie as tie
 
-take-trap-requires : tie.Need-take-trap-requires
-take-trap-requires c κs =
-    let s = c .before .before .before .before in
-    (s .pre .0, s .pre .1, s .pre .2, c .before .tag-written .ensures .1)
-
 returns : tie.Need-returns
 returns c =
     let call = c .before .before in
     rw (← (call .before .before .tag-written .ensures .0)) (call .take-trap .ensures)
 
 pub take-tagged-spec : {M : Type 1} → statement M
-take-tagged-spec = tie.close (tie.spec (λ c κs. search needs) take-trap-requires (λ c. search needs) returns)
+take-tagged-spec = tie.close (tie.spec (λ c κs. search needs) (λ c κs. search needs) (λ c. search needs) returns)

@@ -5,7 +5,6 @@ use mathlib.Core.Path.{_∙_}
 use native.Mathlib.Omega.{arith}
 use borrow.Author.Needs.{needs}
 use Rattle.machine.specs.Access.{trapRegisters}
-use Rattle.machine.specs.Questions.{kindSide}
 use Rattle.machine.specs.State.{counts, State, stateIn}
 use Rattle.machine.specs.declared.Tag.the-variants.{Kept}
 use Rattle.state.proofs.Parts.{sized-words}
@@ -17,9 +16,6 @@ add-write-side : tie.Need-add-write-side
 add-write-side c =
     let tag = c .before .before .before in
     omega (arith, rw (tag .tag .given .1) at (tag .before .before .before .before .before .before .before .pre .3))
-
-enum-told : tie.Need-enum-told
-enum-told c = search needs
 
 returns : tie.Need-returns
 unfolding trapRegisters
@@ -33,7 +29,7 @@ returns c =
     let z = sized-words counts (s .args .state .now) (s .pre .0) in
     let file : List ℕ = trapRegisters (u .registers) a (s .args .trap) Kept in
     rw (tag .tag .given .1)
-    (written-more u z file (trap-length (u .registers) a (s .args .trap) Kept ∙ z .0) (fault .write-fault .ensures) (a .strand) (20 + kindSide (a .kind)) _ (call .write-side .ensures))
+    (written-more u z file (trap-length (u .registers) a (s .args .trap) Kept ∙ z .0) (fault .write-fault .ensures) (a .strand) (20 + a .side) _ (call .write-side .ensures))
 
 returns-2 : tie.Need-returns-2
 returns-2 c = rw (c .enum-told .given .1) (c .before .before .before .before .write-fault .ensures)
@@ -47,7 +43,7 @@ write-trap-spec =
     (λ c. search needs)
     add-write-side
     (λ c κs. search needs)
-    enum-told
+    (λ c. search needs)
     (λ c. search needs)
     returns
     (λ c. search needs)

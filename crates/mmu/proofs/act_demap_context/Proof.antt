@@ -1,33 +1,22 @@
 -- `mmu::act_demap_context` meets its contract.
-use Rattle.machine.specs.Step.{act}
-use Rattle.mmu.proofs.Passes.{passed-within}
 use borrow.Author.Needs.{needs}
+use Rattle.machine.specs.Step.{act}
 use Rattle.mmu.proofs.act_demap_context.Statement.{statement}
 use Rattle.mmu.proofs.act_demap_context.Tie as tie
-
-read-register-requires : tie.Need-read-register-requires
-read-register-requires c κs = (search needs, passed-within _ _ (c .before .before .pre .2) .0, search needs)
-
-selected-context-requires : tie.Need-selected-context-requires
-selected-context-requires c κs = (search needs, passed-within _ _ (c .before .before .before .before .pre .2) .0)
-
-act-demap-requires : tie.Need-act-demap-requires
-act-demap-requires c κs = (search needs, passed-within _ _ (c .before .before .before .before .before .before .pre .2) .1)
 
 returns : tie.Need-returns
 unfolding act
 returns c =
     let did = c .before .before in
     let context = did .before .before in
-    let partition = context .before .before in
-    rw (context .selected-context .ensures, partition .read-register .ensures) at (did .act-demap .ensures)
+    rw (context .selected-context .ensures, context .before .before .read-register .ensures) at (did .act-demap .ensures)
 
 pub act-demap-context-spec : {M : Type 1} → statement M
 act-demap-context-spec =
     tie.close
     (tie.spec
-    read-register-requires
-    selected-context-requires
-    act-demap-requires
+    (λ c κs. search needs)
+    (λ c κs. search needs)
+    (λ c κs. search needs)
     (λ c. search needs)
     returns)

@@ -3,22 +3,17 @@ use mathlib.Core.Path.{_∙_}
 use Rattle.machine.specs.State.{counts, stateIn}
 use Rattle.machine.specs.Step.{act}
 use Rattle.machine.proofs.State.{sound-side}
-use Rattle.mmu.proofs.Passes.{passed-within, place-fits}
+use Rattle.mmu.proofs.Passes.{place-fits}
 use borrow.Author.Needs.{needs}
 use Rattle.mmu.proofs.act_insert.Statement.{statement}
 use Rattle.mmu.proofs.act_insert.Tie as tie
 
-entry-for-requires : tie.Need-entry-for-requires
-entry-for-requires c κs = let w = passed-within _ _ (c .before .before .pre .2) in (search needs, w .0, w .1)
-
-insert-side-requires : tie.Need-insert-side-requires
-insert-side-requires c κs = (search needs, passed-within _ _ (c .before .before .before .before .pre .2) .1)
-
 placed-to-answer-requires : tie.Need-placed-to-answer-requires
 placed-to-answer-requires c κs =
-    let start = c .before .before .before .before .before .before .before in
+    let entry = c .before .before .before .before in
+    let start = entry .before .before .before in
     let u = stateIn (start .args .state .now) in
-    rw (c .before .before .insert-side .ensures .1) (place-fits _ _ (sound-side counts u (start .pre .1) (start .args .side) .1))
+    rw (c .before .before .insert-side .ensures .1) (place-fits _ _ (sound-side counts u (start .pre .sound) (start .args .side) .1))
 
 returns : tie.Need-returns
 unfolding act
@@ -31,8 +26,8 @@ pub act-insert-spec : {M : Type 1} → statement M
 act-insert-spec =
     tie.close
     (tie.spec
-    entry-for-requires
-    insert-side-requires
+    (λ c κs. search needs)
+    (λ c κs. search needs)
     placed-to-answer-requires
     (λ c. search needs)
     returns)

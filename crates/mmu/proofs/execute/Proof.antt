@@ -3,6 +3,7 @@ use mathlib.Core.Path.{sym, _∙_}
 use Rattle.machine.specs.State.{counts}
 use Rattle.machine.specs.Step.{step}
 use Rattle.machine.proofs.State.{encode-state}
+use Rattle.mmu.proofs.Passes.{passed-fit}
 use borrow.Author.Needs.{needs}
 use Rattle.mmu.proofs.execute.Statement.{statement}
 use Rattle.mmu.proofs.execute.Tie as tie
@@ -14,14 +15,13 @@ returns c =
     let e = sym (q .question .ensures) ∙ c .before .refusal .given .1 in
     record { words = rw e (sym (encode-state counts _ (q .before .before .before .pre .0))); answer = rw e }
 
-enum-told : tie.Need-enum-told
-enum-told c = search needs
-
 act-command-requires : tie.Need-act-command-requires
 act-command-requires c κs =
     let told = c .before .before in
     let q = told .before .before in
-    (search needs, q .before .before .before .pre .1, sym (q .question .ensures) ∙ told .enum-told .given .1)
+    let s = q .before .before .before in
+    let e = sym (q .question .ensures) ∙ told .enum-told .given .1 in
+    record { lent = search needs; sound = s .pre .1; passed = e; fit = passed-fit _ _ e }
 
 returns-2 : tie.Need-returns-2
 unfolding step
@@ -39,7 +39,7 @@ execute-spec =
     (λ c. search needs)
     (λ c. search needs)
     returns
-    enum-told
+    (λ c. search needs)
     act-command-requires
     (λ c. search needs)
     returns-2)

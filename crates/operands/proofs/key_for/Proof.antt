@@ -1,12 +1,10 @@
 -- `operands::key_for` meets its contract.
+use borrow.Author.Needs.{needs}
 use Rattle.operands.proofs.key_for.Statement.{statement}
 use Rattle.operands.proofs.key_for.Tie as tie
 
 returns : tie.Need-returns
-returns c = rw (c .if1 .taken)
-
-returns-2 : tie.Need-returns-2
-returns-2 c = rw (c .if1 .left)
+returns c = rw (c .untranslate .ensures, c .before .if1 .taken)
 
 pub key-for-spec : {M : Type 1} → statement M
-key-for-spec = tie.close (tie.spec returns returns-2)
+key-for-spec = tie.close (tie.spec (λ c κs. search needs) returns (λ c. rw (c .if1 .left)))

@@ -1,96 +1,73 @@
 -- `questions::ask_insert` meets its contract, question by question.
-use mathlib.Core.Path.{sym, ap, _∙_}
-use borrow.Author.Tests.{lt-ltb, le-ltb, not-true, not-false}
-use Rattle.machine.specs.Questions.{asked, ask, verdict}
-use Prim.Native.Nat.{ℕ, _*_, _/_}
+use Prim.Native.Nat.{ℕ}
+use mathlib.Core.Path.{_≡_}
+use borrow.Author.Needs.{needs}
+use borrow.Author.Tests.{lt-ltb, le-ltb}
 use Rattle.machine.specs.Pages.{inRange}
+use Rattle.machine.specs.Registers.{tagAccess, tagAddress}
 use Rattle.machine.specs.Insertion.{candidate, hasSlot}
 use Rattle.machine.specs.State.{stateIn, sideOf}
-use Rattle.machine.specs.declared.Slot.{Slot}
-use borrow.Author.Needs.{needs}
+use Rattle.machine.specs.Questions.{asked, insertion}
+use Rattle.machine.specs.declared.Command.the-variants as command
+use Rattle.questions.proofs.Asks.{After, all, yes, no, none, held, failed}
 use Rattle.questions.proofs.ask_insert.Statement.{statement}
 use Rattle.questions.proofs.ask_insert.Tie as tie
 
-returns : tie.Need-returns
-unfolding verdict asked ask
-returns c = rw (le-ltb (c .before .before .args .strand) 4 (c .if1 .taken))
+abbrev Past : tie.Start → ℕ → Type 0
+Past s = let a = s .args in After (stateIn (a .state .now)) (command.Insert (a .strand) (a .side) (a .flags) (a .word))
 
-returns-2 : tie.Need-returns-2
-unfolding verdict asked ask
-returns-2 c =
-    rw (
-      lt-ltb (c .before .before .before .args .strand) 4 (c .before .if1 .left),
-      le-ltb (c .before .before .before .args .side) 2 (c .if2 .taken),
-    )
+abbrev start : tie.Else3 → tie.Start
+start c = c .before .before .before .before
 
-returns-3 : tie.Need-returns-3
-unfolding verdict asked ask
-returns-3 c =
-    rw (
-      lt-ltb (c .before .before .before .before .args .strand) 4 (c .before .before .if1 .left),
-      lt-ltb (c .before .before .before .before .args .side) 2 (c .before .if2 .left),
-      le-ltb (c .before .before .before .before .args .flags) 4 (c .if3 .taken),
-    )
+left-1 : (c : tie.Else1) → Past (c .before .before) 1
+unfolding asked
+left-1 c = yes (all _ _) (lt-ltb _ 4 (c .if1 .left))
 
-returns-4 : tie.Need-returns-4
-unfolding verdict asked ask
-returns-4 c =
-    rw (
-      lt-ltb (c .before .before .before .before .before .before .before .args .strand) 4 (c .before .before .before .before .before .if1 .left),
-      lt-ltb (c .before .before .before .before .before .before .before .args .side) 2 (c .before .before .before .before .if2 .left),
-      lt-ltb (c .before .before .before .before .before .before .before .args .flags) 4 (c .before .before .before .if3 .left),
-      ap (λ (t : ℕ). inRange (t / 8192 * 8192)) (sym (c .before .before .tag-of .ensures)) ∙ sym (c .before .in-range .ensures) ∙ not-true _ (c .if4 .taken),
-    )
+left-2 : (c : tie.Else2) → Past (c .before .before .before) 2
+unfolding asked
+left-2 c = yes (left-1 (c .before)) (lt-ltb _ 2 (c .if2 .left))
 
-returns-5 : tie.Need-returns-5
-unfolding verdict asked ask
-returns-5 c =
-    rw (
-      lt-ltb (c .before .before .before .before .before .before .before .before .before .args .strand) 4 (c .before .before .before .before .before .before .before .if1 .left),
-      lt-ltb (c .before .before .before .before .before .before .before .before .before .args .side) 2 (c .before .before .before .before .before .before .if2 .left),
-      lt-ltb (c .before .before .before .before .before .before .before .before .before .args .flags) 4 (c .before .before .before .before .before .if3 .left),
-      ap (λ (t : ℕ). inRange (t / 8192 * 8192)) (sym (c .before .before .before .before .tag-of .ensures)) ∙ sym (c .before .before .before .in-range .ensures) ∙ not-false _ (c .before .before .if4 .left),
-      sym (c .before .word-insertable .ensures .0) ∙ not-true _ (c .if5 .taken),
-    )
+left-3 : (c : tie.Else3) → Past (start c) 3
+unfolding asked
+left-3 c = yes (left-2 (c .before)) (lt-ltb _ 4 (c .if3 .left))
 
-returns-6 : tie.Need-returns-6
-unfolding verdict asked ask
-returns-6 c =
-    rw (
-      lt-ltb (c .before .before .before .before .before .before .before .before .before .before .before .before .args .strand) 4 (c .before .before .before .before .before .before .before .before .before .before .if1 .left),
-      lt-ltb (c .before .before .before .before .before .before .before .before .before .before .before .before .args .side) 2 (c .before .before .before .before .before .before .before .before .before .if2 .left),
-      lt-ltb (c .before .before .before .before .before .before .before .before .before .before .before .before .args .flags) 4 (c .before .before .before .before .before .before .before .before .if3 .left),
-      ap (λ (t : ℕ). inRange (t / 8192 * 8192)) (sym (c .before .before .before .before .before .before .before .tag-of .ensures)) ∙ sym (c .before .before .before .before .before .before .in-range .ensures) ∙ not-false _ (c .before .before .before .before .before .if4 .left),
-      sym (c .before .before .before .before .word-insertable .ensures .0) ∙ not-false _ (c .before .before .before .if5 .left),
-      ap (λ (x : Slot). hasSlot candidate x (sideOf (stateIn (c .before .before .before .before .before .before .before .before .before .before .before .before .args .state .now)) (c .before .before .before .before .before .before .before .before .before .before .before .before .args .side))) (sym (c .before .before .entry-for .ensures)) ∙ sym (c .before .slot-to-be-had .ensures) ∙ not-true _ (c .if6 .taken),
-    )
+-- the code asks of the address what the definition asks
+address : (c : tie.After-in-range) →
+    let a = start (c .before .before .before) .args in
+    c .in-range .result ≡ inRange (tagAddress (tagAccess (stateIn (a .state .now) .registers) (a .strand) (a .side)) .0)
+address c = rw (c .before .tag-address .ensures, c .before .before .tag-of .ensures) at (c .in-range .ensures)
 
-returns-7 : tie.Need-returns-7
-unfolding verdict asked ask
-returns-7 c =
-    rw (
-      lt-ltb (c .before .before .before .before .before .before .before .before .before .before .before .before .args .strand) 4 (c .before .before .before .before .before .before .before .before .before .before .if1 .left),
-      lt-ltb (c .before .before .before .before .before .before .before .before .before .before .before .before .args .side) 2 (c .before .before .before .before .before .before .before .before .before .if2 .left),
-      lt-ltb (c .before .before .before .before .before .before .before .before .before .before .before .before .args .flags) 4 (c .before .before .before .before .before .before .before .before .if3 .left),
-      ap (λ (t : ℕ). inRange (t / 8192 * 8192)) (sym (c .before .before .before .before .before .before .before .tag-of .ensures)) ∙ sym (c .before .before .before .before .before .before .in-range .ensures) ∙ not-false _ (c .before .before .before .before .before .if4 .left),
-      sym (c .before .before .before .before .word-insertable .ensures .0) ∙ not-false _ (c .before .before .before .if5 .left),
-      ap (λ (x : Slot). hasSlot candidate x (sideOf (stateIn (c .before .before .before .before .before .before .before .before .before .before .before .before .args .state .now)) (c .before .before .before .before .before .before .before .before .before .before .before .before .args .side))) (sym (c .before .before .entry-for .ensures)) ∙ sym (c .before .slot-to-be-had .ensures) ∙ not-false _ (c .if6 .left),
-    )
+left-4 : (c : tie.Else4) → Past (start (c .before .before .before .before)) 4
+unfolding asked
+left-4 c = yes (left-3 (c .before .before .before .before)) (held (address (c .before)) (c .if4 .left))
+
+left-5 : (c : tie.Else5) → Past (start (c .before .before .before .before .before .before)) 5
+unfolding asked
+left-5 c = yes (left-4 (c .before .before)) (held (c .before .word-insertable .ensures .0) (c .if5 .left))
+
+-- .. and of the slots
+slot : (c : tie.After-slot-to-be-had) →
+    let left = c .before .before in
+    let a = start (left .before .before .before .before .before .before) .args in
+    let u = stateIn (a .state .now) in
+    c .slot-to-be-had .result ≡ hasSlot candidate (insertion u (a .strand) (a .side) (a .flags) (a .word)) (sideOf u (a .side))
+slot c = rw (c .before .entry-for .ensures) at (c .slot-to-be-had .ensures)
 
 pub ask-insert-spec : {M : Type 1} → statement M
+unfolding asked
 ask-insert-spec =
     tie.close
     (tie.spec
-    returns
-    returns-2
-    returns-3
-    (λ c κs. search needs)
-    (λ c. search needs)
-    (λ c κs. search needs)
-    returns-4
-    (λ c κs. search needs)
-    returns-5
+    (λ c. no (all _ _) (le-ltb _ 4 (c .if1 .taken)))
+    (λ c. no (left-1 (c .before)) (le-ltb _ 2 (c .if2 .taken)))
+    (λ c. no (left-2 (c .before)) (le-ltb _ 4 (c .if3 .taken)))
     (λ c κs. search needs)
     (λ c κs. search needs)
-    returns-6
-    returns-7)
+    (λ c κs. search needs)
+    (λ c. no (left-3 (c .before .before .before .before)) (failed (address (c .before)) (c .if4 .taken)))
+    (λ c κs. search needs)
+    (λ c. no (left-4 (c .before .before)) (failed (c .before .word-insertable .ensures .0) (c .if5 .taken)))
+    (λ c κs. search needs)
+    (λ c κs. search needs)
+    (λ c. no (left-5 (c .before .before .before)) (failed (slot (c .before)) (c .if6 .taken)))
+    (λ c. none (yes (left-5 (c .before .before .before)) (held (slot (c .before)) (c .if6 .left)))))

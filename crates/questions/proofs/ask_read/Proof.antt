@@ -1,28 +1,17 @@
 -- `questions::ask_read` meets its contract, question by question.
-use mathlib.Core.Path.{sym, _∙_}
-use borrow.Author.Tests.{lt-ltb, le-ltb, not-true, not-false}
-use Rattle.machine.specs.Questions.{asked, ask, verdict}
 use borrow.Author.Needs.{needs}
+use borrow.Author.Tests.{lt-ltb, le-ltb}
+use Rattle.machine.specs.Questions.{asked}
+use Rattle.questions.proofs.Asks.{all, yes, no, none, held, failed}
 use Rattle.questions.proofs.ask_read.Statement.{statement}
 use Rattle.questions.proofs.ask_read.Tie as tie
 
-returns : tie.Need-returns
-unfolding verdict asked ask
-returns c = rw (le-ltb (c .before .before .args .strand) 4 (c .if1 .taken))
-
-returns-2 : tie.Need-returns-2
-unfolding verdict asked ask
-returns-2 c = rw (
-  lt-ltb (c .before .before .before .before .args .strand) 4 (c .before .before .if1 .left),
-  sym (c .before .is-known .ensures) ∙ not-true _ (c .if2 .taken),
-)
-
-returns-3 : tie.Need-returns-3
-unfolding verdict asked ask
-returns-3 c = rw (
-  lt-ltb (c .before .before .before .before .args .strand) 4 (c .before .before .if1 .left),
-  sym (c .before .is-known .ensures) ∙ not-false _ (c .if2 .left),
-)
-
 pub ask-read-spec : {M : Type 1} → statement M
-ask-read-spec = tie.close (tie.spec returns (λ c κs. search needs) returns-2 returns-3)
+unfolding asked
+ask-read-spec =
+    tie.close
+    (tie.spec
+    (λ c. no (all _ _) (le-ltb _ 4 (c .if1 .taken)))
+    (λ c κs. search needs)
+    (λ c. no (yes (all _ _) (lt-ltb _ 4 (c .before .before .if1 .left))) (failed (c .before .is-known .ensures) (c .if2 .taken)))
+    (λ c. none (yes (yes (all _ _) (lt-ltb _ 4 (c .before .before .if1 .left))) (held (c .before .is-known .ensures) (c .if2 .left)))))

@@ -1,39 +1,33 @@
 -- `questions::ask_write` meets its contract, question by question.
-use mathlib.Core.Path.{sym, _∙_}
-use borrow.Author.Tests.{lt-ltb, le-ltb, not-true, not-false}
-use Rattle.machine.specs.Questions.{asked, ask, verdict}
+use Prim.Native.Nat.{ℕ}
 use borrow.Author.Needs.{needs}
+use borrow.Author.Tests.{lt-ltb, le-ltb}
+use Rattle.machine.specs.State.{stateIn}
+use Rattle.machine.specs.Questions.{asked}
+use Rattle.machine.specs.declared.Command.the-variants as command
+use Rattle.questions.proofs.Asks.{After, all, yes, no, none, held, failed}
 use Rattle.questions.proofs.ask_write.Statement.{statement}
 use Rattle.questions.proofs.ask_write.Tie as tie
 
-returns : tie.Need-returns
-unfolding verdict asked ask
-returns c = rw (le-ltb (c .before .before .args .strand) 4 (c .if1 .taken))
+abbrev Past : tie.Start → ℕ → Type 0
+Past s = let a = s .args in After (stateIn (a .state .now)) (command.Write (a .strand) (a .number) (a .value))
 
-returns-2 : tie.Need-returns-2
-unfolding verdict asked ask
-returns-2 c = rw (
-  lt-ltb (c .before .before .before .before .args .strand) 4 (c .before .before .if1 .left),
-  sym (c .before .is-writable .ensures) ∙ not-true _ (c .if2 .taken),
-)
+left-1 : (c : tie.Else1) → Past (c .before .before) 1
+unfolding asked
+left-1 c = yes (all _ _) (lt-ltb _ 4 (c .if1 .left))
 
-returns-3 : tie.Need-returns-3
-unfolding verdict asked ask
-returns-3 c = rw (
-  lt-ltb (c .before .before .before .before .before .before .args .strand) 4 (c .before .before .before .before .if1 .left),
-  sym (c .before .before .before .is-writable .ensures) ∙ not-false _ (c .before .before .if2 .left),
-  sym (c .before .is-allowed .ensures) ∙ not-true _ (c .if3 .taken),
-)
-
-returns-4 : tie.Need-returns-4
-unfolding verdict asked ask
-returns-4 c = rw (
-  lt-ltb (c .before .before .before .before .before .before .args .strand) 4 (c .before .before .before .before .if1 .left),
-  sym (c .before .before .before .is-writable .ensures) ∙ not-false _ (c .before .before .if2 .left),
-  sym (c .before .is-allowed .ensures) ∙ not-false _ (c .if3 .left),
-)
+left-2 : (c : tie.Else2) → Past (c .before .before .before .before) 2
+unfolding asked
+left-2 c = yes (left-1 (c .before .before)) (held (c .before .is-writable .ensures) (c .if2 .left))
 
 pub ask-write-spec : {M : Type 1} → statement M
+unfolding asked
 ask-write-spec =
     tie.close
-    (tie.spec returns (λ c κs. search needs) returns-2 (λ c κs. search needs) returns-3 returns-4)
+    (tie.spec
+    (λ c. no (all _ _) (le-ltb _ 4 (c .if1 .taken)))
+    (λ c κs. search needs)
+    (λ c. no (left-1 (c .before .before)) (failed (c .before .is-writable .ensures) (c .if2 .taken)))
+    (λ c κs. search needs)
+    (λ c. no (left-2 (c .before .before)) (failed (c .before .is-allowed .ensures) (c .if3 .taken)))
+    (λ c. none (yes (left-2 (c .before .before)) (held (c .before .is-allowed .ensures) (c .if3 .left)))))

@@ -3,14 +3,10 @@ use borrow.Author.Tests.{lt-ltb, le-ltb, eq-eqb, ne-eqb}
 use Rattle.questions.proofs.size_fits.Statement.{statement}
 use Rattle.questions.proofs.size_fits.Tie as tie
 
-returns : tie.Need-returns
-returns c = rw (le-ltb _ _ (c .if1 .taken))
-
-returns-2 : tie.Need-returns-2
-returns-2 c = rw (lt-ltb _ _ (c .before .if1 .left), ne-eqb _ _ (c .if2 .taken))
-
-returns-3 : tie.Need-returns-3
-returns-3 c = rw (lt-ltb _ _ (c .before .if1 .left), eq-eqb _ _ (c .if2 .left))
-
 pub size-fits-spec : {M : Type 1} → statement M
-size-fits-spec = tie.close (tie.spec returns returns-2 returns-3)
+size-fits-spec =
+    tie.close
+    (tie.spec
+    (λ c. rw (lt-ltb _ _ (c .before .if1 .taken), ne-eqb _ _ (c .if2 .taken)))
+    (λ c. rw (lt-ltb _ _ (c .before .if1 .taken), eq-eqb _ _ (c .if2 .left)))
+    (λ c. rw (le-ltb _ _ (c .if1 .left))))

@@ -4,8 +4,6 @@ use Rattle.machine.proofs.Slots.{slot-get}
 use borrow.Author.Needs.{needs}
 use Rattle.tlb.proofs.slot_at.Statement.{statement}
 use Rattle.tlb.proofs.slot_at.Tie as tie
-use Rattle.tlb.proofs.slot_at.Reads as reads
-use Rattle.tlb.proofs.slot_at.Lts as lts
 
 -- src/lib.rt:23:13
 -- src/lib.rt:25:16

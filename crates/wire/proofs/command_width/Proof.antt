@@ -1,45 +1,21 @@
 -- `wire::command_width` meets its contract: arm by arm.
 -- Assumes nothing.
 use borrow.Author.Tests.{ne-eqb}
+use Rattle.machine.specs.Stream.{widthOf}
 use Rattle.wire.proofs.command_width.Statement.{statement}
 use Rattle.wire.proofs.command_width.Tie as tie
 
-returns : tie.Need-returns
-returns c = rw (c .match .keys1)
-
-returns-2 : tie.Need-returns-2
-returns-2 c = rw (c .match .keys2)
-
-returns-3 : tie.Need-returns-3
-returns-3 c = rw (c .match .keys3)
-
-returns-4 : tie.Need-returns-4
-returns-4 c = rw (c .match .keys4)
-
-returns-5 : tie.Need-returns-5
-returns-5 c = rw (c .match .keys5)
-
-returns-6 : tie.Need-returns-6
-returns-6 c = rw (c .match .keys6)
-
-returns-7 : tie.Need-returns-7
-returns-7 c = rw (c .match .keys7)
-
-returns-8 : tie.Need-returns-8
-returns-8 c = rw (c .match .keys8)
-
-returns-9 : tie.Need-returns-9
-returns-9 c = rw (c .match .keys9)
-
 returns-10 : tie.Need-returns-10
+unfolding widthOf
 returns-10 c =
     let no = c .match .rest in
+    let no-5 = no .0 .0 .0 .0 in
     simp (
-      ne-eqb _ _ (no .0 .0 .0 .0 .0 .0 .0 .0 .1),
-      ne-eqb _ _ (no .0 .0 .0 .0 .0 .0 .0 .1),
-      ne-eqb _ _ (no .0 .0 .0 .0 .0 .0 .1),
-      ne-eqb _ _ (no .0 .0 .0 .0 .0 .1),
-      ne-eqb _ _ (no .0 .0 .0 .0 .1),
+      ne-eqb _ _ (no-5 .0 .0 .0 .0 .1),
+      ne-eqb _ _ (no-5 .0 .0 .0 .1),
+      ne-eqb _ _ (no-5 .0 .0 .1),
+      ne-eqb _ _ (no-5 .0 .1),
+      ne-eqb _ _ (no-5 .1),
       ne-eqb _ _ (no .0 .0 .0 .1),
       ne-eqb _ _ (no .0 .0 .1),
       ne-eqb _ _ (no .0 .1),
@@ -47,16 +23,17 @@ returns-10 c =
     )
 
 pub command-width-spec : {M : Type 1} → statement M
+unfolding widthOf
 command-width-spec =
     tie.close
     (tie.spec
-    returns
-    returns-2
-    returns-3
-    returns-4
-    returns-5
-    returns-6
-    returns-7
-    returns-8
-    returns-9
+    (λ c. rw (c .match .keys1))
+    (λ c. rw (c .match .keys2))
+    (λ c. rw (c .match .keys3))
+    (λ c. rw (c .match .keys4))
+    (λ c. rw (c .match .keys5))
+    (λ c. rw (c .match .keys6))
+    (λ c. rw (c .match .keys7))
+    (λ c. rw (c .match .keys8))
+    (λ c. rw (c .match .keys9))
     returns-10)

@@ -10,7 +10,7 @@ returns c =
     let third = c .before .before in
     let second = third .before .before .before .before in
     let first = second .before .before .before .before in
-    answer-stores _ _ _ (first .before .before .fields-of .ensures) (first .put-eight .ensures) (second .put-eight2 .ensures) (third .put-eight3 .ensures)
+    answer-stores _ _ _ (first .before .before .words-of .ensures) (first .put-eight .ensures) (second .put-eight2 .ensures) (third .put-eight3 .ensures)
 
 pub put-answer-spec : {M : Type 1} → statement M
 put-answer-spec =

@@ -1,9 +1,9 @@
--- `mmu::other_set` meets its contract.
+-- `tsb::other_set` meets its contract.
 use borrow.Author.Tests.{eq-eqb, ne-eqb}
 use native.Mathlib.Omega.{arith}
 use mathlib.Core.Path.{refl}
-use Rattle.mmu.proofs.other_set.Statement.{statement}
-use Rattle.mmu.proofs.other_set.Tie as tie
+use Rattle.tsb.proofs.other_set.Statement.{statement}
+use Rattle.tsb.proofs.other_set.Tie as tie
 
 returns : tie.Need-returns
 returns c = rw (eq-eqb _ _ (c .if1 .taken)) (refl, omega arith)

@@ -1,8 +1,8 @@
--- `wire::fields_of` meets its contract: case by case.
+-- `wire::words_of` meets its contract: case by case.
 -- Assumes nothing.
 use borrow.Author.Needs.{needs}
-use Rattle.wire.proofs.fields_of.Statement.{statement}
-use Rattle.wire.proofs.fields_of.Tie as tie
+use Rattle.wire.proofs.words_of.Statement.{statement}
+use Rattle.wire.proofs.words_of.Tie as tie
 
 returns : tie.Need-returns
 returns c = rw (c .before .before .answer .given .1, c .head-word .ensures)
@@ -11,7 +11,7 @@ returns-2 : tie.Need-returns-2
 returns-2 c = rw (c .before .before .answer2 .given .1, c .head-word2 .ensures)
 
 returns-3 : tie.Need-returns-3
-returns-3 c = rw (c .before .before .answer3 .given .1, c .trap-fields .ensures)
+returns-3 c = rw (c .before .before .answer3 .given .1, c .trap-words .ensures)
 
 returns-4 : tie.Need-returns-4
 returns-4 c = rw (c .before .before .answer4 .given .1, c .head-word3 .ensures)
@@ -22,8 +22,8 @@ returns-5 c = rw (c .before .before .before .answer5 .given .1, c .head-word4 .e
 returns-6 : tie.Need-returns-6
 returns-6 c = rw (c .before .before .before .answer6 .given .1, c .head-word5 .ensures, c .before .refusal-number .ensures)
 
-pub fields-of-spec : {M : Type 1} → statement M
-fields-of-spec =
+pub words-of-spec : {M : Type 1} → statement M
+words-of-spec =
     tie.close
     (tie.spec
     (λ c. search needs)

@@ -1,14 +1,14 @@
--- `mmu::tsb_pointer` meets its contract.
+-- `tsb::tsb_pointer` meets its contract.
 use Prim.Native.Nat.{_+_, _*_, _/_, _%_, _^_, _<_}
 use mathlib.Core.Path.{_≡_}
 use native.Mathlib.Omega.{arith}
 use native.Mathlib.Nat.{mod-eq-of-lt}
 use lib.Pow.{split}
-use Rattle.machine.specs.Step.{tsbOffset, tsbPointer}
-use Rattle.mmu.proofs.Tsb.{aligned-sum, offset-below}
+use Rattle.machine.specs.Tsb.{tsbOffset, tsbPointer}
+use Rattle.tsb.proofs.Sizes.{aligned-sum, offset-below}
 use borrow.Author.Needs.{needs}
-use Rattle.mmu.proofs.tsb_pointer.Statement.{statement}
-use Rattle.mmu.proofs.tsb_pointer.Tie as tie
+use Rattle.tsb.proofs.tsb_pointer.Statement.{statement}
+use Rattle.tsb.proofs.tsb_pointer.Tie as tie
 
 -- what is shifted back does not leave the word
 kept : (c : tie.Start) → (c .args .base / 2 ^ (13 + c .args .base % 16) * 2 ^ (13 + c .args .base % 16)) % 2 ^ 64 ≡ c .args .base / 2 ^ (13 + c .args .base % 16) * 2 ^ (13 + c .args .base % 16)

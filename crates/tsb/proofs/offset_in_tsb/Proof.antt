@@ -1,14 +1,14 @@
--- `mmu::offset_in_tsb` meets its contract.
+-- `tsb::offset_in_tsb` meets its contract.
 use Prim.Native.Nat.{_+_}
 use lib.Pow.{pow-mono}
 use native.Mathlib.Omega.{arith}
 use lib.Pow.{pow-pos}
-use Rattle.machine.specs.Step.{tsbOffset}
+use Rattle.machine.specs.Tsb.{tsbOffset}
 use Rattle.machine.proofs.Pages.{shift-small}
-use Rattle.mmu.proofs.Tsb.{tsb-entries, offset-below}
+use Rattle.tsb.proofs.Sizes.{tsb-entries, offset-below}
 use borrow.Author.Needs.{needs}
-use Rattle.mmu.proofs.offset_in_tsb.Statement.{statement}
-use Rattle.mmu.proofs.offset_in_tsb.Tie as tie
+use Rattle.tsb.proofs.offset_in_tsb.Statement.{statement}
+use Rattle.tsb.proofs.offset_in_tsb.Tie as tie
 
 shr-result : tie.Need-shr-result
 shr-result c = rw (c .page-shift .ensures) (omega (arith, shift-small (c .before .args .code)))

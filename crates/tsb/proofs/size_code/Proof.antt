@@ -1,8 +1,8 @@
--- `mmu::size_code` meets its contract.
+-- `tsb::size_code` meets its contract.
 use mathlib.Core.Path.{_≡_}
 use native.Mathlib.Omega.{arith}
-use Rattle.mmu.proofs.size_code.Statement.{statement}
-use Rattle.mmu.proofs.size_code.Tie as tie
+use Rattle.tsb.proofs.size_code.Statement.{statement}
+use Rattle.tsb.proofs.size_code.Tie as tie
 
 returns : tie.Need-returns
 returns c = rw (c .if1 .taken) (omega arith)

@@ -7,7 +7,7 @@ use native.Mathlib.Omega.{arith}
 use lib.Dec.{lit<}
 use lib.Pow.{pow-add, pow-pos, shl-exact, shr-lt}
 use Rattle.machine.specs.Pages.{pageSize}
-use Rattle.machine.specs.Step.{tsbOffset}
+use Rattle.machine.specs.Tsb.{tsbOffset}
 
 -- how many entries
 pub tsb-entries : (n : ℕ) → n < 16 → (512 * 2 ^ n) % 2 ^ 64 ≡ 2 ^ (9 + n)

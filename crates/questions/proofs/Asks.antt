@@ -1,0 +1,72 @@
+-- Questions one after another: those that are left decide. Assumes nothing.
+use Prim.Native.Nat.{ℕ}
+use mathlib.Core.Path.{_≡_, refl, sym, _∙_}
+use mathlib.Core.Bool.{Bool, true, false, not}
+use mathlib.Core.List.{List, [], _∷_, _++_}
+use borrow.Author.Tests.{not-true, not-false}
+use lib.ListN.{drop}
+use Rattle.laws.proofs.Bools.{by-test}
+use Rattle.machine.specs.State.{State}
+use Rattle.machine.specs.Questions.{Question, question, asked, ask, verdict}
+use Rattle.machine.specs.declared.Command.{Command}
+use Rattle.machine.specs.declared.Refusal.{Refusal}
+use Rattle.machine.specs.declared.Verdict.{Verdict}
+use Rattle.machine.specs.declared.Verdict.the-variants.{Passed, Refused}
+
+-- the questions that are left come to the verdict
+pub record Left (v : Verdict) (qs : List Question) : Type 0 where
+  pub decides : ask qs ≡ v
+
+-- those of a command after the first k
+abbrev pub After : State → Command → ℕ → Type 0
+After u c k = Left (verdict u c) (drop k (asked u c))
+
+-- before the first, all
+pub all : (u : State) (c : Command) → Left (verdict u c) (asked u c)
+unfolding verdict
+all u c = record { decides = refl }
+
+module _ {v : Verdict} {r : Refusal} {b : Bool} {qs : List Question} where
+  -- a "yes" leaves those behind it
+  pub yes : Left v (question r b ∷ qs) → b ≡ true → Left v qs
+  unfolding ask
+  yes l e = record { decides = rw e at (l .decides) }
+
+  -- a "no" refuses
+  pub no : Left v (question r b ∷ qs) → b ≡ false → Refused r ≡ v
+  unfolding ask
+  no l e = rw e at (l .decides)
+
+-- after the last, none
+pub none : {v : Verdict} → Left v [] → Passed ≡ v
+unfolding ask
+none l = l .decides
+
+-- the first questions decide unless they passed
+abbrev orElse : Verdict → Verdict → Verdict
+orElse Passed v = v
+orElse (Refused r) v = Refused r
+
+both : (qs rest : List Question) → ask (qs ++ rest) ≡ orElse (ask qs) (ask rest)
+unfolding ask
+both [] rest = refl
+both (q ∷ qs) rest = by-test (q .fine) (λ t. rw t (both qs rest)) (λ t. rw t)
+
+-- where the first questions are those of another command, which was asked: if it passed ..
+pub passed : {v w : Verdict} (u : State) (c : Command) (rest : List Question) → w ≡ verdict u c → w ≡ Passed → Left v (asked u c ++ rest) → Left v rest
+unfolding verdict
+passed u c rest p e l = record { decides = sym (rw (sym p ∙ e) at (both (asked u c) rest)) ∙ l .decides }
+
+-- .. and if it was refused
+pub refused : {v w : Verdict} {r : Refusal} (u : State) (c : Command) (rest : List Question)
+    → w ≡ verdict u c → w ≡ Refused r → Left v (asked u c ++ rest) → Refused r ≡ v
+unfolding verdict
+refused u c rest p e l = sym (rw (sym p ∙ e) at (both (asked u c) rest)) ∙ l .decides
+
+-- what a call says of a question, as the code tests it
+module _ {t b : Bool} (e : t ≡ b) where
+  pub held : not t ≡ false → b ≡ true
+  held h = sym e ∙ not-false t h
+
+  pub failed : not t ≡ true → b ≡ false
+  failed h = sym e ∙ not-true t h
