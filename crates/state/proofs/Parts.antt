@@ -70,7 +70,7 @@ module _ (n : Counts) (words : List ℕ) (l : length words ≡ stateWords n) whe
       let low : c < registerWords = omega arith in
       let past : c < registerWords + n .itlb * 4 = omega arith in
       sym (encode-state n (set words c value) (length-set words c value ∙ l))
-      ∙ ap encode (rw (take-set-lt registerWords words c value low, drop-set-lt registerWords words c value low, drop-set-lt (registerWords + n .itlb * 4) words c value past))
+      ∙ ap encode (rw (take-set-lt, drop-set-lt registerWords, drop-set-lt))
 
   -- ---- a side: the k words from a on
   module _ (side a k : ℕ) (h : side < 2) (start : a ≡ sideStart n side) (count : k ≡ slotCount n side * 4) where
@@ -93,7 +93,7 @@ module _ (n : Counts) (words : List ℕ) (l : length words ≡ stateWords n) whe
     unfolding stateOf
     side-read = by-side
         (λ e p q. rw (e, p, q))
-        (λ e p q. rw (e, p) (ap slotsOf (take-all k (drop (registerWords + n .itlb * 4) words) (omega (arith, length-drop (registerWords + n .itlb * 4) words)))))
+        (λ e p q. rw (e, p) (ap slotsOf (take-all k _ (omega (arith, length-drop (registerWords + n .itlb * 4) words)))))
 
     -- the words with the side's part replaced
     pub side-stored : (s : List Slot) → take a words ++ (wordsOf s ++ drop k (drop a words)) ≡ encode (withSide (stateOf n words) side s)
@@ -101,18 +101,21 @@ module _ (n : Counts) (words : List ℕ) (l : length words ≡ stateWords n) whe
     side-stored s =
         let m : ℕ = n .itlb * 4 in
         let rest : List ℕ = drop registerWords words in
+        let dtlb : List ℕ = drop (registerWords + m) words in
         let size : length rest ≡ m + n .dtlb * 4 = length-drop registerWords words ∙ omega arith in
+        let size' : length dtlb ≡ n .dtlb * 4 = length-drop (registerWords + m) words ∙ omega arith in
         by-side
         (λ e p q.
-        let d : wordsOf (slotsOf (drop (registerWords + m) words)) ≡ drop (registerWords + m) words = words-back _ (omega (arith, length-drop (registerWords + m) words)) in
+        let d : wordsOf (slotsOf dtlb) ≡ dtlb = words-back dtlb (omega arith) in
         rw (e, p, q, d, drop-drop m registerWords words))
         (λ e p q.
         let i : wordsOf (slotsOf (take m rest)) ≡ take m rest = words-back _ (omega (arith, length-take-le m rest (omega arith))) in
-        let none : drop k (drop (registerWords + m) words) ≡ [] = drop-of-length-le _ {i = k} (omega (arith, length-drop (registerWords + m) words)) in
+        let none : drop k dtlb ≡ [] = drop-of-length-le _ {i = k} (omega arith) in
         rw (e, p, none, i, append-nil, take-add registerWords m words) (append-assoc (take registerWords words) (take m rest) (wordsOf s)))
 
   -- ---- soundness, part by part
-  pub sound-parts : wordsSound n words ≡ (registersSound (stateOf n words .registers) && (sideSound (stateOf n words .itlb) && sideSound (stateOf n words .dtlb)))
+  pub sound-parts : wordsSound n words
+      ≡ (registersSound (stateOf n words .registers) && (sideSound (stateOf n words .itlb) && sideSound (stateOf n words .dtlb)))
   unfolding wordsSound sound sideFits
   sound-parts =
       let z : Sized n (stateOf n words) = sized-words n words l in

@@ -5,8 +5,9 @@ use mathlib.Core.Path.{_≡_}
 use mathlib.Core.Bool.{true}
 use mathlib.Core.List.{List}
 use lib.ListN.{length}
-use Rattle.machine.specs.State.{counts, stateIn, stateLength, encode, sound}
+use Rattle.machine.specs.State.{counts, stateIn, stateLength, encode, sideOf, withSide, sound}
 use Rattle.machine.specs.Access.{Stepped}
+use Rattle.machine.specs.declared.Slot.{Slot}
 use Rattle.machine.specs.declared.Answer.{Answer}
 
 -- words of a state's length
@@ -16,6 +17,10 @@ Lent words = length words ≡ stateLength
 -- the state that they hold is sound
 abbrev pub SoundIn : List ℕ → Type 0
 SoundIn words = sound counts (stateIn words) ≡ true
+
+-- the words with f done to the slots of a side
+abbrev pub onSide : (List Slot → List Slot) → ℕ → List ℕ → List ℕ
+onSide f side words = encode (withSide (stateIn words) side (f (sideOf (stateIn words) side)))
 
 -- the words left and the answer given are those of a step
 pub record Did (left : List ℕ) (given : Answer) (s : Stepped) : Type 0 where

@@ -1,13 +1,13 @@
 // The state as lent words: 128 register cells, then side 0, then side 1, 64 slots each.
 ghost use mathlib.Core.Path.{_≡_};
 ghost use Prim.Native.Nat.{_+_, _*_, _<_};
-ghost use lib.ListN.{getD};
+ghost use lib.ListN.{length, getD};
 ghost use Rattle.laws.specs.Tests.{count};
-ghost use Rattle.machine.specs.Slots.{noSlot, search, setUsed};
+ghost use Rattle.machine.specs.Slots.{noSlot, slotsOf, search, setUsed};
 ghost use Rattle.machine.specs.Insertion.{removed, removes, candidate, inserted, placed, hasSlot};
 ghost use Rattle.machine.specs.Registers.{register, withRegister};
-ghost use Rattle.machine.specs.State.{counts, stateIn, encode, sideOf, withSide, withRegisters, wordsSound, resetOf, resetNumber};
-ghost use Rattle.state.specs.Calls.{Lent, SoundIn};
+ghost use Rattle.machine.specs.State.{counts, stateIn, encode, sideOf, withRegisters, wordsSound, resetOf, resetNumber};
+ghost use Rattle.state.specs.Calls.{Lent, SoundIn, onSide};
 ghost use Rattle.state.specs.Reset.{resetWord};
 use laws::Found;
 use machine::Key;
@@ -15,10 +15,13 @@ use machine::Placed;
 use machine::Removal;
 use machine::Slot;
 
+// Where side 1 starts.
+const DTLB: usize = machine::REGISTER_WORDS + machine::SIDE_WORDS;
+
 fn cell(strand: u8, number: u8) -> usize
     ensures { λ r. ⌜ r ≡ strand * 32 + number ⌝ }
 {
-    (strand as usize) * 32 + (number as usize)
+    (strand as usize) * machine::STRAND_CELLS + (number as usize)
 }
 
 // A strand's register.
@@ -43,7 +46,18 @@ pub fn write_register(state: &mut [u64], strand: u8, number: u8, value: u64)
 fn side_start(side: u8) -> usize
     ensures { λ r. ⌜ r ≡ 128 + side * 256 ⌝ }
 {
-    128 + (side as usize) * 256
+    machine::REGISTER_WORDS + (side as usize) * machine::SIDE_WORDS
+}
+
+// The words of a side, to read.
+fn side_of(state: &[u64], side: u8) -> &[u64]
+    requires { ⌜ Lent (now state) × (side < 2) ⌝ }
+    ensures slots { λ r. ⌜ slotsOf (now r) ≡ sideOf (stateIn (now (state .entry))) side ⌝ }
+    ensures count { λ r. ⌜ length (now r) ≡ 256 ⌝ }
+{
+    let start = side_start(side);
+    let end = start + machine::SIDE_WORDS;
+    &state[start..end]
 }
 
 // The lowest live slot of a side that answers to the key.
@@ -51,9 +65,7 @@ pub fn search_side(state: &[u64], side: u8, key: Key) -> Found
     requires { ⌜ Lent (now state) × (side < 2) ⌝ }
     ensures { λ r. ⌜ r ≡ search key (sideOf (stateIn (now (state .entry))) side) ⌝ }
 {
-    let start = side_start(side);
-    let end = start + 256;
-    tlb::search(&state[start..end], key)
+    tlb::search(side_of(state, side), key)
 }
 
 // Slot i of a side.
@@ -61,9 +73,7 @@ pub fn slot_of(state: &[u64], side: u8, i: usize) -> Slot
     requires { ⌜ Lent (now state) × (side < 2) × (i < 64) ⌝ }
     ensures { λ r. ⌜ r ≡ getD (sideOf (stateIn (now (state .entry))) side) i noSlot ⌝ }
 {
-    let start = side_start(side);
-    let end = start + 256;
-    tlb::slot_at(&state[start..end], i)
+    tlb::slot_at(side_of(state, side), i)
 }
 
 // Where a key's hint is kept: the owner among the bits of the page's number, spread by a multiplier. Only time depends on it.
@@ -81,13 +91,13 @@ pub fn search_hinted(state: &[u64], hints: &mut [u8; 256], side: u8, key: Key) -
     ensures { λ r. ⌜ r ≡ search key (sideOf (stateIn (now (state .entry))) side) ⌝ }
 {
     let at = hint_place(side, key);
-    let hint = (hints[at] % 64) as usize;
+    let hint = (hints[at] % (machine::SIDE_SLOTS as u8)) as usize;
     if tlb_update::answers(slot_of(state, side, hint), key) {
         return Found::At(hint);
     }
     let found = search_side(state, side, key);
     if let Found::At(i) = found {
-        hints[at] = (i % 64) as u8;
+        hints[at] = (i % machine::SIDE_SLOTS) as u8;
     }
     found
 }
@@ -95,11 +105,10 @@ pub fn search_hinted(state: &[u64], hints: &mut [u8; 256], side: u8, key: Key) -
 // Sets the used bit of slot i of a side.
 pub fn mark_used(state: &mut [u64], side: u8, i: usize)
     requires { ⌜ Lent (now state) × (side < 2) × (i < 64) ⌝ }
-    ensures { λ r. ⌜ now (state .exit) ≡ encode (withSide (stateIn (now (state .entry))) side
-        (setUsed i (sideOf (stateIn (now (state .entry))) side))) ⌝ }
+    ensures { λ r. ⌜ now (state .exit) ≡ onSide (setUsed i) side (now (state .entry)) ⌝ }
 {
     let start = side_start(side);
-    let end = start + 256;
+    let end = start + machine::SIDE_WORDS;
     tlb::set_used(&mut state[start..end], i);
 }
 
@@ -108,32 +117,28 @@ pub fn slot_to_be_had(state: &[u64], side: u8, new: Slot) -> bool
     requires { ⌜ Lent (now state) × (side < 2) ⌝ }
     ensures { λ r. ⌜ r ≡ hasSlot candidate new (sideOf (stateIn (now (state .entry))) side) ⌝ }
 {
-    let start = side_start(side);
-    let end = start + 256;
-    tlb_update::has_slot(&state[start..end], new)
+    tlb_update::has_slot(side_of(state, side), new)
 }
 
 // An insertion on a side.
 pub fn insert_side(state: &mut [u64], side: u8, new: Slot) -> Placed
     requires { ⌜ Lent (now state) × (side < 2) ⌝ }
-    ensures words { λ r. ⌜ now (state .exit) ≡ encode (withSide (stateIn (now (state .entry))) side
-        (inserted candidate new (sideOf (stateIn (now (state .entry))) side))) ⌝ }
+    ensures words { λ r. ⌜ now (state .exit) ≡ onSide (inserted candidate new) side (now (state .entry)) ⌝ }
     ensures placed { λ r. ⌜ r ≡ placed candidate new (sideOf (stateIn (now (state .entry))) side) ⌝ }
 {
     let start = side_start(side);
-    let end = start + 256;
+    let end = start + machine::SIDE_WORDS;
     tlb_update::insert(&mut state[start..end], new)
 }
 
 // A removal on a side, with its count.
 pub fn remove_side(state: &mut [u64], side: u8, which: Removal) -> u64
     requires { ⌜ Lent (now state) × (side < 2) ⌝ }
-    ensures words { λ r. ⌜ now (state .exit) ≡ encode (withSide (stateIn (now (state .entry))) side
-        (removed (removes which) (sideOf (stateIn (now (state .entry))) side))) ⌝ }
+    ensures words { λ r. ⌜ now (state .exit) ≡ onSide (removed (removes which)) side (now (state .entry)) ⌝ }
     ensures count { λ r. ⌜ r ≡ count (removes which) (sideOf (stateIn (now (state .entry))) side) ⌝ }
 {
     let start = side_start(side);
-    let end = start + 256;
+    let end = start + machine::SIDE_WORDS;
     tlb_update::remove(&mut state[start..end], which)
 }
 
@@ -144,25 +149,23 @@ pub fn state_sound(state: &[u64]) -> bool
     if state.len() != machine::STATE_WORDS {
         return false;
     }
-    if !registers::file_sound(&state[0..machine::REGISTER_WORDS]) {
-        return false;
-    }
     let mut buckets = [0; 1024];
     let seen: &mut [u8] = &mut buckets;
-    if !tlb_sound::side_sound(&state[128..384], seen, 1) {
-        return false;
-    }
-    // another mark: what side 0 left there does not count
-    tlb_sound::side_sound(&state[384..640], seen, 2)
+    // another mark for side 1: what side 0 left in the table does not count
+    registers::file_sound(&state[0..machine::REGISTER_WORDS])
+        && (tlb_sound::side_sound(&state[machine::REGISTER_WORDS..DTLB], seen, 1)
+            && tlb_sound::side_sound(&state[DTLB..machine::STATE_WORDS], seen, 2))
 }
 
 fn reset_word(i: usize) -> u64
     ensures { λ r. ⌜ r ≡ resetWord i ⌝ }
 {
-    if 128 <= i {
-        return 0;
+    let mode = machine::MODE as usize;
+    if i < machine::REGISTER_WORDS && i % machine::STRAND_CELLS == mode {
+        machine::HYPERPRIVILEGED
+    } else {
+        0
     }
-    if i % 32 == 3 { 2 } else { 0 }
 }
 
 // Fills a lent state: mode 2, all else 0. A state of another length is left as it is, and the answer is 1.

@@ -11,7 +11,7 @@ returns c =
     let call = c .before .before in
     let side = call .before .before in
     let start = side .before .before in
-    let part = lent-side (start .args .state .now) (start .args .side) (side .side-start .result) (start .pre .0) (start .pre .1) (side .side-start .ensures) in
+    let part = lent-side _ (start .pre .0) (start .pre .1) (side .side-start .ensures) in
     let new = start .args .new in
     (part .back (inserted candidate new) (call .insert .ensures .0), call .insert .ensures .1 ∙ ap (placed candidate new) (part .slots))
 

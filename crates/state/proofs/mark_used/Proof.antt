@@ -13,7 +13,7 @@ returns c =
     let call = c .before .before in
     let side = call .before .before in
     let start = side .before .before in
-    let part = lent-side (start .args .state .now) (start .args .side) (side .side-start .result) (start .pre .0) (start .pre .1) (side .side-start .ensures) in
+    let part = lent-side _ (start .pre .0) (start .pre .1) (side .side-start .ensures) in
     part .back (setUsed (start .args .i)) (call .set-used .ensures ∙ store-slots _ _ _ (omega (arith, part .count)))
 
 pub mark-used-spec : {M : Type 1} → statement M

@@ -12,7 +12,7 @@ returns c =
     let call = c .before .before in
     let side = call .before .before in
     let start = side .before .before in
-    let part = lent-side (start .args .state .now) (start .args .side) (side .side-start .result) (start .pre .0) (start .pre .1) (side .side-start .ensures) in
+    let part = lent-side _ (start .pre .0) (start .pre .1) (side .side-start .ensures) in
     let which = removes (start .args .which) in
     (part .back (removed which) (call .remove .ensures .0), call .remove .ensures .1 ∙ ap (count which) (part .slots))
 

@@ -8,7 +8,7 @@ use Rattle.state.proofs.write_register.Tie as tie
 returns : tie.Need-returns
 returns c =
     let start = c .before .before in
-    rw (c .cell .ensures) (register-stored counts (start .args .state .now) (start .pre .0) (start .args .strand) (start .args .number) (start .args .value) (start .pre .1) (start .pre .2))
+    rw (c .cell .ensures) (register-stored counts _ (start .pre .0) _ _ _ (start .pre .1) (start .pre .2))
 
 pub write-register-spec : {M : Type 1} → statement M
 write-register-spec =
