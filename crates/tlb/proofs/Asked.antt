@@ -1,7 +1,7 @@
 -- What a walk of the slots asks of one slot: the owner, the page against a prepared table, then bit 63. Assumes nothing.
 use Prim.Native.Nat.{ℕ, _*_, _/_, _^_, _≤_, _<_, max}
 use mathlib.Core.Path.{_≡_, ap, sym, _∙_}
-use mathlib.Core.Bool.{true, false}
+use mathlib.Core.Bool.{Bool, true, false, _&&_, and-assoc, and-comm, and-false, or-comm}
 use mathlib.Core.List.{List}
 use native.Mathlib.Omega.{arith}
 use native.Mathlib.Nat.{div-eq-of-lt, div-lt-iff-lt-mul, le-trans, le-max-left, le-max-right, max-eq-left}
@@ -11,12 +11,12 @@ use lib.Bits.{bitXor, and-le-l, and-le-r, xor-add-and, xor-comm, xor-self, xor-s
 use lib.ListN.{getD, set, replicate, getD-replicate}
 use lib.Seq.{getD-set-other}
 use borrow.Author.Tests.{eqb-true, eqb-false, eq-eqb, ne-eqb, ltb-true, ltb-false}
-use Rattle.laws.proofs.Bools.{by-test, and-no, or-comm}
+use Rattle.laws.proofs.Bools.{by-test}
 use Rattle.machine.specs.declared.Key.{Key}
 use Rattle.machine.specs.declared.Slot.{Slot}
 use Rattle.machine.specs.Pages.{pageShift, pageSize, pageStart}
 use Rattle.machine.proofs.Pages.{start-block}
-use Rattle.machine.specs.Slots.{isLive, sizeCode, holds, keyOwner, keyAddress, answersTo}
+use Rattle.machine.specs.Slots.{isLive, sizeCode, agrees, holds, keyOwner, keyAddress, answersTo}
 use Rattle.machine.specs.Insertion.{overlaps}
 use Rattle.tlb.specs.Tables.{byCode, startsOf, spansOf, answersBy}
 
@@ -52,7 +52,9 @@ page-asked x a = ap (λ (n : ℕ). eqb n (x .page)) (sym (start-at a (sizeCode x
 -- to answer by the prepared starts is to answer
 pub asked : (key : Key) (x : Slot) → answersBy (keyOwner key) (startsOf (keyAddress key)) x ≡ answersTo key x
 unfolding answersBy answersTo
-asked key x = rw (page-asked x (keyAddress key))
+asked key x =
+    let page : Bool = eqb (getD (startsOf (keyAddress key)) (sizeCode x) 0) (x .page) in
+    rw (page-asked x (keyAddress key)) (sym (and-assoc (agrees key x) page (isLive x)) ∙ and-comm (agrees key x && page) (isLive x))
 
 -- ---- whether x overlaps y
 xor-zero : (a b : ℕ) → bitXor a b ≡ 0 → a ≡ b
@@ -80,7 +82,7 @@ over-far x y h =
     let q : holds y (x .page) ≡ false =
     ne-eqb _ _ (λ (e : pageStart (sizeCode y) (x .page) ≡ y .page).
     omega (arith, le-trans (le-max-right _ _) m, near (x .page) (y .page) (pageShift (sizeCode y)) (sym (start-block (sizeCode y) (y .page) (x .page) e)))) in
-    rw (p, q, and-no (eqb (x .owner) (y .owner)), and-no (isLive y)) (and-no (isLive x))
+    rw (p, q, and-false (eqb (x .owner) (y .owner)), and-false (isLive y)) (and-false (isLive x))
 
 -- a page at a page start holds an address whose xor with it is below its size
 near-holds : (x : Slot) (a : ℕ) → pageStart (sizeCode x) (x .page) ≡ x .page → bitXor (x .page) a < pageSize (sizeCode x) → holds x a ≡ true
@@ -90,11 +92,11 @@ near-holds x a s h = eq-eqb _ (x .page) (ap (λ (n : ℕ). n * pageSize (sizeCod
 module _ (x y : Slot) where
   pub over-owner : (y .owner ≡ x .owner → ⊥) → overlaps x y ≡ false
   unfolding overlaps
-  over-owner h = rw (ne-eqb (x .owner) (y .owner) (λ e. h (sym e)), and-no (isLive y)) (and-no (isLive x))
+  over-owner h = rw (ne-eqb (x .owner) (y .owner) (λ e. h (sym e)), and-false (isLive y)) (and-false (isLive x))
 
   pub over-empty : (y .word / 2 ^ 63 ≡ 1 → ⊥) → overlaps x y ≡ false
   unfolding overlaps
-  over-empty h = rw (ne-eqb (y .word / 2 ^ 63) 1 h) (and-no (isLive x))
+  over-empty h = rw (ne-eqb (y .word / 2 ^ 63) 1 h) (and-false (isLive x))
 
   pub over-near : isLive x ≡ true → y .word / 2 ^ 63 ≡ 1 → y .owner ≡ x .owner
       → pageStart (sizeCode x) (x .page) ≡ x .page → pageStart (sizeCode y) (y .page) ≡ y .page
@@ -107,5 +109,5 @@ module _ (x y : Slot) where
       (by-test (ltb d (pageSize (sizeCode x)))
       (λ e. rw (near-holds x (y .page) p (ltb-true d (pageSize (sizeCode x)) e)))
       (λ e.
-      let n : bitXor (y .page) (x .page) < pageSize (sizeCode y) = rw (xor-comm (y .page) (x .page)) (omega (arith, m, ltb-false d (pageSize (sizeCode x)) e)) in
+      let n : bitXor (y .page) (x .page) < pageSize (sizeCode y) = rw (xor-comm (y .page) (x .page)) (omega (arith, ltb-false d _ e)) in
       rw (near-holds y (x .page) q n) (or-comm (holds x (y .page)) true)))

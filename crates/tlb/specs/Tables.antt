@@ -8,6 +8,7 @@ use mathlib.Core.Bool.{Bool, _&&_}
 use lib.Dec.{eqb}
 use lib.ListN.{getD, set, replicate, drop}
 use Rattle.laws.specs.Tests.{firstFrom}
+use Rattle.laws.specs.declared.Found.{Found}
 use Rattle.machine.specs.Slots.{isLive, sizeCode, slotsOf}
 use Rattle.machine.specs.declared.Slot.{Slot}
 
@@ -23,11 +24,14 @@ startsOf a = byCode a (λ k. a / 2 ^ k * 2 ^ k)
 unfoldable pub spansOf : ℕ → List ℕ
 spansOf size = byCode size (λ k. max size (2 ^ k))
 
--- a live slot of the owner whose page has the start that a table gives for its size code
+-- a slot of the owner whose page has the start that a table gives for its size code, and live, in the order of the code
 unfoldable pub answersBy : ℕ → List ℕ → Slot → Bool
-answersBy owner start x = isLive x && (eqb (x .owner) owner && eqb (getD start (sizeCode x) 0) (x .page))
+answersBy owner start x = eqb (x .owner) owner && (eqb (getD start (sizeCode x) 0) (x .page) && isLive x)
 
--- a search of the slots from i on finds what one from j on finds
+-- what a search of the slots from i on finds
+abbrev pub foundFrom : ℕ → List ℕ → List ℕ → ℕ → Found
+foundFrom owner start l i = firstFrom (answersBy owner start) i (drop i (slotsOf l))
+
+-- it finds what one from j on finds
 abbrev pub Skips : ℕ → List ℕ → List ℕ → ℕ → ℕ → Type 0
-Skips owner start l i j =
-    firstFrom (answersBy owner start) i (drop i (slotsOf l)) ≡ firstFrom (answersBy owner start) j (drop j (slotsOf l))
+Skips owner start l i j = foundFrom owner start l i ≡ foundFrom owner start l j

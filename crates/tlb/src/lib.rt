@@ -3,11 +3,12 @@ ghost use mathlib.Core.Path.{_≡_};
 ghost use mathlib.Core.Bool.{not};
 ghost use Prim.Native.Nat.{_+_, _*_, _<_, _≤_, _%_, max};
 ghost use lib.ListN.{length, drop};
-ghost use Rattle.laws.specs.Tests.{anyOf, first, firstFrom};
+ghost use Rattle.laws.specs.Tests.{anyOf, first};
 ghost use Rattle.machine.specs.Pages.{pageSize};
-ghost use Rattle.machine.specs.Slots.{slotsOf, wordsOf, slotOf, withSlot, onSlot, ownerWord, keyOwner, keyAddress, isLive, search, withUsed, clearUsed, sizeCode};
+ghost use Rattle.machine.specs.Slots.{slotsOf, wordsOf, slotOf, withSlot, onSlot, ownerWord, keyOwner, keyAddress, search, withUsed, clearUsed};
+ghost use Rattle.machine.specs.Slots.{isLive, sizeCode, partitionOf, isReal, contextOf, isLocked, isUsed, holds};
 ghost use Rattle.machine.specs.Insertion.{overlaps};
-ghost use Rattle.tlb.specs.Tables.{startsOf, spansOf, answersBy, Skips};
+ghost use Rattle.tlb.specs.Tables.{startsOf, spansOf, answersBy, foundFrom, Skips};
 use laws::Found;
 use machine::Key;
 use machine::Slot;
@@ -17,7 +18,7 @@ pub fn slot_at(slots: &[u64], i: usize) -> Slot
     requires { ⌜ i * 4 + 4 ≤ length (now slots) ⌝ }
     ensures { λ r. ⌜ r ≡ slotOf (now (slots .entry)) i ⌝ }
 {
-    let k = i * 4;
+    let k = i * machine::SLOT_WORDS;
     Slot {
         owner: slots[k],
         page: slots[k + 1],
@@ -30,11 +31,61 @@ pub fn store_slot(slots: &mut [u64], i: usize, x: Slot)
     requires { ⌜ i * 4 + 4 ≤ length (now slots) ⌝ }
     ensures { λ r. ⌜ now (slots .exit) ≡ withSlot (now (slots .entry)) i x ⌝ }
 {
-    let k = i * 4;
+    let k = i * machine::SLOT_WORDS;
     slots[k] = x.owner;
     slots[k + 1] = x.page;
     slots[k + 2] = x.word;
     slots[k + 3] = x.flags;
+}
+
+// What stands in a slot. Bit 63 of the word.
+pub fn is_live(x: Slot) -> bool
+    ensures { λ r. ⌜ r ≡ isLive x ⌝ }
+{
+    x.word >> 63 == 1
+}
+
+pub fn size_code(x: Slot) -> u64
+    ensures { λ r. ⌜ r ≡ sizeCode x ⌝ }
+{
+    x.word % 16
+}
+
+pub fn partition_of(x: Slot) -> u64
+    ensures { λ r. ⌜ r ≡ partitionOf x ⌝ }
+{
+    x.owner >> 14
+}
+
+pub fn is_real(x: Slot) -> bool
+    ensures { λ r. ⌜ r ≡ isReal x ⌝ }
+{
+    (x.owner >> 13) % 2 == 1
+}
+
+pub fn context_of(x: Slot) -> u64
+    ensures { λ r. ⌜ r ≡ contextOf x ⌝ }
+{
+    x.owner % 0x2000
+}
+
+pub fn is_locked(x: Slot) -> bool
+    ensures { λ r. ⌜ r ≡ isLocked x ⌝ }
+{
+    x.flags % 2 == 1
+}
+
+pub fn is_used(x: Slot) -> bool
+    ensures { λ r. ⌜ r ≡ isUsed x ⌝ }
+{
+    (x.flags >> 1) % 2 == 1
+}
+
+// Whether the slot's page holds the address.
+pub fn holds(x: Slot, address: u64) -> bool
+    ensures { λ r. ⌜ r ≡ holds x address ⌝ }
+{
+    pages::page_start(size_code(x), address) == x.page
 }
 
 // Partition, real bit and context as a slot holds them.
@@ -98,24 +149,17 @@ fn answers_at(slots: &[u64], i: usize, owner: u64, start: &[u64; 16]) -> bool
     requires { ⌜ i * 4 + 4 ≤ length (now slots) ⌝ }
     ensures { λ r. ⌜ r ≡ answersBy owner (now (start .entry)) (slotOf (now (slots .entry)) i) ⌝ }
 {
-    let k = i * 4;
-    if slots[k] != owner {
-        return false;
-    }
-    let word = slots[k + 2];
-    let code = (word % 16) as usize;
-    if slots[k + 1] != start[code] {
-        return false;
-    }
+    let x = slot_at(slots, i);
+    let code = size_code(x) as usize;
     // an empty slot looks like owner 0, page 0
-    word >> 63 == 1
+    x.owner == owner && (start[code] == x.page && is_live(x))
 }
 
 // The lowest slot from the one given on that answers by the starts.
 fn search_rest(slots: &[u64], from: usize, owner: u64, start: &[u64; 16]) -> Found
-    ensures { λ r. ⌜ r ≡ firstFrom (answersBy owner (now (start .entry))) from (drop from (slotsOf (now (slots .entry)))) ⌝ }
+    ensures { λ r. ⌜ r ≡ foundFrom owner (now (start .entry)) (now (slots .entry)) from ⌝ }
 {
-    let n = slots.len() / 4;
+    let n = slots.len() / machine::SLOT_WORDS;
     let mut i = from;
     while i < n {
         if answers_at(slots, i, owner, start) {
@@ -150,7 +194,7 @@ fn skip_four(slots: &[u64], from: usize, owner: u64, start: &[u64; 16]) -> usize
 fn skip(slots: &[u64], owner: u64, start: &[u64; 16]) -> usize
     ensures { λ r. ⌜ Skips owner (now (start .entry)) (now (slots .entry)) 0 r ⌝ }
 {
-    let n = slots.len() / 4;
+    let n = slots.len() / machine::SLOT_WORDS;
     let mut i = 0;
     while i + 15 < n {
         let a = skip_four(slots, i, owner, start);
@@ -195,7 +239,7 @@ pub fn set_used(slots: &mut [u64], i: usize)
     requires { ⌜ i * 4 + 4 ≤ length (now slots) ⌝ }
     ensures { λ r. ⌜ now (slots .exit) ≡ onSlot withUsed i (now (slots .entry)) ⌝ }
 {
-    let k = i * 4 + 3;
+    let k = i * machine::SLOT_WORDS + 3;
     slots[k] = slots[k] % 2 + 2;
 }
 
@@ -204,39 +248,20 @@ pub fn clear_used(slots: &mut [u64])
     requires { ⌜ length (now slots) % 4 ≡ 0 ⌝ }
     ensures { λ r. ⌜ now (slots .exit) ≡ wordsOf (clearUsed (slotsOf (now (slots .entry)))) ⌝ }
 {
-    let n = slots.len() / 4;
+    let n = slots.len() / machine::SLOT_WORDS;
     let mut i = 0;
     while i < n {
-        let k = i * 4 + 3;
+        let k = i * machine::SLOT_WORDS + 3;
         slots[k] = slots[k] % 2;
         i += 1;
     }
-}
-
-// Bit 63 of the word.
-pub fn is_live(x: Slot) -> bool
-    ensures { λ r. ⌜ r ≡ isLive x ⌝ }
-{
-    x.word >> 63 == 1
 }
 
 // Whether one page holds the other's start, for two live entries of one owner.
 pub fn overlap(x: Slot, y: Slot) -> bool
     ensures { λ r. ⌜ r ≡ overlaps x y ⌝ }
 {
-    if !is_live(x) {
-        return false;
-    }
-    if !is_live(y) {
-        return false;
-    }
-    if x.owner != y.owner {
-        return false;
-    }
-    if pages::page_start(x.word % 16, y.page) == x.page {
-        return true;
-    }
-    pages::page_start(y.word % 16, x.page) == y.page
+    is_live(x) && (is_live(y) && (x.owner == y.owner && (holds(x, y.page) || holds(y, x.page))))
 }
 
 fn larger(a: u64, b: u64) -> u64
@@ -262,22 +287,18 @@ fn overlaps_at(slots: &[u64], j: usize, x: Slot, span: &[u64; 16]) -> bool
     requires { ⌜ (j * 4 + 4 ≤ length (now slots)) × (now span ≡ spansOf (pageSize (sizeCode x))) ⌝ }
     ensures { λ r. ⌜ r ≡ overlaps x (slotOf (now (slots .entry)) j) ⌝ }
 {
-    let k = j * 4;
-    let code = (slots[k + 2] % 16) as usize;
-    let distance = x.page ^ slots[k + 1];
+    let y = slot_at(slots, j);
+    let code = size_code(y) as usize;
     // starts whose xor is the larger page size or more lie in no common page
-    if distance >= span[code] {
-        return false;
-    }
-    overlap(x, slot_at(slots, j))
+    (x.page ^ y.page) < span[code] && overlap(x, y)
 }
 
 // Whether x overlaps none of the slots from the one given on.
 pub fn overlaps_none(slots: &[u64], x: Slot, from: usize) -> bool
     ensures { λ r. ⌜ r ≡ not (anyOf (overlaps x) (drop from (slotsOf (now (slots .entry))))) ⌝ }
 {
-    let span = spans(pages::page_size(x.word % 16));
-    let n = slots.len() / 4;
+    let span = spans(pages::page_size(size_code(x)));
+    let n = slots.len() / machine::SLOT_WORDS;
     let mut j = from;
     while j < n {
         if overlaps_at(slots, j, x, &span) {

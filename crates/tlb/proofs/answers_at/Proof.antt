@@ -1,13 +1,6 @@
--- `tlb::answers_at` meets its contract: the owner, then the page, then bit 63.
-use Prim.Native.Nat.{_*_}
-use mathlib.Core.Path.{sym}
-use mathlib.Core.Bool.{and-true}
-use native.Mathlib.Omega.{arith}
+-- `tlb::answers_at` meets its contract, test by test.
 use borrow.Author.Needs.{needs}
 use borrow.Author.Tests.{eq-eqb, ne-eqb}
-use Rattle.laws.proofs.Bools.{and-no}
-use Rattle.machine.specs.Slots.{isLive}
-use Rattle.machine.proofs.Slots.{slotAt, on-slot}
 use Rattle.tlb.specs.Tables.{answersBy}
 use Rattle.tlb.proofs.answers_at.Statement.{statement}
 use Rattle.tlb.proofs.answers_at.Tie as tie
@@ -15,40 +8,31 @@ use Rattle.tlb.proofs.answers_at.Tie as tie
 returns : tie.Need-returns
 unfolding answersBy
 returns c =
-    let a = c .before .before .args in
-    sym (on-slot (answersBy (a .owner) (a .start .now)) (a .slots .now) (a .i) (omega arith) (rw (ne-eqb _ _ (c .if1 .taken)) (and-no (isLive (slotAt (a .slots .now) (a .i * 4))))))
+    let at2 = c .before in
+    let at1 = at2 .before .before .before in
+    let code = at1 .before .before in
+    rw (← (code .before .slot-at .ensures), ← (code .size-code .ensures), eq-eqb _ _ (at1 .if1 .taken), eq-eqb _ _ (at2 .if2 .taken)) (c .is-live .ensures)
 
 returns-2 : tie.Need-returns-2
 unfolding answersBy
 returns-2 c =
-    let w = c .before .before .before .before in
-    let a = w .before .before .args in
-    sym (on-slot (answersBy (a .owner) (a .start .now)) (a .slots .now) (a .i) (omega arith)
-    (rw (eq-eqb _ _ (w .if1 .left), ne-eqb _ _ (λ e. c .if2 .taken (sym e))) (and-no (isLive (slotAt (a .slots .now) (a .i * 4))))))
+    let at1 = c .before .before .before in
+    let code = at1 .before .before in
+    rw (← (code .before .slot-at .ensures), ← (code .size-code .ensures), eq-eqb _ _ (at1 .if1 .taken), ne-eqb _ _ (c .if2 .left))
 
 returns-3 : tie.Need-returns-3
 unfolding answersBy
-returns-3 c =
-    let w = c .before .before .before .before in
-    let a = w .before .before .args in
-    sym (on-slot (answersBy (a .owner) (a .start .now)) (a .slots .now) (a .i) (omega arith)
-    (rw (eq-eqb _ _ (w .if1 .left), eq-eqb _ _ (sym (c .if2 .left))) (and-true _)))
+returns-3 c = rw (← (c .before .before .before .slot-at .ensures), ne-eqb _ _ (c .if1 .left))
 
 pub answers-at-spec : {M : Type 1} → statement M
 answers-at-spec =
     tie.close
     (tie.spec
+    (λ c κs. search needs)
+    (λ c κs. search needs)
     (λ c. search needs)
     (λ c. search needs)
-    (λ c. search needs)
+    (λ c κs. search needs)
     returns
-    (λ c. search needs)
-    (λ c. search needs)
-    (λ c. search needs)
-    (λ c. search needs)
-    (λ c. search needs)
-    (λ c. search needs)
-    (λ c. search needs)
-    (λ c. search needs)
     returns-2
     returns-3)

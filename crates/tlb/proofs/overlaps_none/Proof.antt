@@ -9,7 +9,6 @@ use Rattle.laws.proofs.Walks.{any-hit, any-pass, any-end}
 use Rattle.machine.specs.Slots.{slotsOf, noSlot}
 use Rattle.machine.specs.Insertion.{overlaps}
 use Rattle.machine.proofs.Slots.{slots-length}
-use Rattle.tlb.specs.Tables.{spansOf}
 use borrow.Author.Needs.{needs}
 use Rattle.tlb.proofs.overlaps_none.Statement.{statement}
 use Rattle.tlb.proofs.overlaps_none.Tie as tie
@@ -26,7 +25,7 @@ loop-holds c = refl
 overlaps-at-requires : tie.Need-overlaps-at-requires Inv-loop μ-loop
 overlaps-at-requires c κs =
     let s = c .before .before .before in
-    (omega arith, s .spans .ensures ∙ ap spansOf (s .before .page-size .ensures))
+    (omega arith, s .spans .ensures ∙ rw (s .before .page-size .ensures, s .before .before .size-code .ensures))
 
 returns : tie.Need-returns Inv-loop μ-loop
 returns c =
@@ -57,6 +56,7 @@ overlaps-none-spec =
     (tie.spec
     Inv-loop
     μ-loop
+    (λ c κs. search needs)
     (λ c κs. search needs)
     (λ c κs. search needs)
     loop-holds

@@ -1,5 +1,4 @@
 -- `tlb::owner_word` meets its contract.
-use borrow.Author.Needs.{needs}
 use native.Mathlib.Omega.{arith}
 use borrow.Author.Needs.{needs}
 use Rattle.tlb.proofs.owner_word.Statement.{statement}

@@ -1,19 +1,16 @@
 -- `tlb::search_rest` meets its contract. The invariant: it finds what the search of the slots from i on finds.
 use Prim.Native.Nat.{_-_}
-use mathlib.Core.Path.{_≡_, refl, sym, _∙_}
+use mathlib.Core.Path.{refl, sym, _∙_}
 use native.Mathlib.Omega.{arith}
-use lib.ListN.{drop}
-use Rattle.laws.specs.Tests.{firstFrom}
 use Rattle.laws.proofs.Walks.{first-hit, first-pass, first-end}
 use Rattle.machine.specs.Slots.{slotsOf, noSlot}
 use Rattle.machine.proofs.Slots.{slots-length}
-use Rattle.tlb.specs.Tables.{answersBy}
+use Rattle.tlb.specs.Tables.{Skips}
 use Rattle.tlb.proofs.search_rest.Statement.{statement}
 use Rattle.tlb.proofs.search_rest.Tie as tie
 
 abbrev Inv-loop : tie.InvT-loop
-Inv-loop slots from owner start n i₀ i =
-    firstFrom (answersBy owner start) from (drop from (slotsOf slots)) ≡ firstFrom (answersBy owner start) i (drop i (slotsOf slots))
+Inv-loop slots from owner start n i₀ i = Skips owner start slots from i
 
 abbrev μ-loop : tie.MeasureT-loop
 μ-loop slots from owner start n i₀ i = n - i

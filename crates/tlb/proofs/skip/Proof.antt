@@ -22,28 +22,23 @@ loop-holds c = (omega arith, refl)
 returns : tie.Need-returns Inv-loop μ-loop
 returns c = c .before .before .before .loop .inv .1 ∙ c .before .skip-four .ensures .1
 
-past-one : (c : tie.Else1 Inv-loop μ-loop) →
-    let at = c .before .before .before in
-    let a = at .before .before .args in
-    Skips (a .owner) (a .start .now) (a .slots .now) 0 (at .loop .i + 4)
+-- the first k slots of a turn are skipped too
+abbrev Past : tie.At-loop Inv-loop μ-loop → ℕ → Type 0
+Past at k = let a = at .before .before .args in Skips (a .owner) (a .start .now) (a .slots .now) 0 (at .loop .i + k)
+
+past-one : (c : tie.Else1 Inv-loop μ-loop) → Past (c .before .before .before) 4
 past-one c = on _ _ _ _ (c .before .before .before .loop .inv .1) (c .before .skip-four .ensures .1) (omega arith)
 
 returns-2 : tie.Need-returns-2 Inv-loop μ-loop
 returns-2 c = past-one (c .before .before) ∙ c .before .skip-four2 .ensures .1
 
-past-two : (c : tie.Else2 Inv-loop μ-loop) →
-    let at = c .before .before .before .before .before in
-    let a = at .before .before .args in
-    Skips (a .owner) (a .start .now) (a .slots .now) 0 (at .loop .i + 8)
+past-two : (c : tie.Else2 Inv-loop μ-loop) → Past (c .before .before .before .before .before) 8
 past-two c = on _ _ _ _ (past-one (c .before .before)) (c .before .skip-four2 .ensures .1) (omega arith)
 
 returns-3 : tie.Need-returns-3 Inv-loop μ-loop
 returns-3 c = past-two (c .before .before) ∙ c .before .skip-four3 .ensures .1
 
-past-three : (c : tie.Else3 Inv-loop μ-loop) →
-    let at = c .before .before .before .before .before .before .before in
-    let a = at .before .before .args in
-    Skips (a .owner) (a .start .now) (a .slots .now) 0 (at .loop .i + 12)
+past-three : (c : tie.Else3 Inv-loop μ-loop) → let two = c .before .before in Past (two .before .before .before .before .before) 12
 past-three c = on _ _ _ _ (past-two (c .before .before)) (c .before .skip-four3 .ensures .1) (omega arith)
 
 returns-4 : tie.Need-returns-4 Inv-loop μ-loop

@@ -23,26 +23,27 @@ returns c =
     let e : i + 0 ≡ i = omega arith in
     (omega arith, rw e)
 
-past-one : (c : tie.Else1) → let a = c .before .before .before .args in Skips (a .owner) (a .start .now) (a .slots .now) (a .from) (a .from + 1)
+-- k slots are skipped
+abbrev Past : tie.Start → ℕ → Type 0
+Past s k = let a = s .args in Skips (a .owner) (a .start .now) (a .slots .now) (a .from) (a .from + k)
+
+past-one : (c : tie.Else1) → Past (c .before .before .before) 1
 past-one c =
-    let a = c .before .before .before .args in
-    more _ _ _ (a .from) (a .from) _ (omega arith) refl refl (sym (c .before .answers-at .ensures) ∙ c .if1 .left)
+    let i = c .before .before .before .args .from in
+    more _ _ _ i i _ (omega arith) refl refl (sym (c .before .answers-at .ensures) ∙ c .if1 .left)
 
 returns-2 : tie.Need-returns-2
 returns-2 c = (omega arith, past-one (c .before .before))
 
-past-two : (c : tie.Else2) → let a = c .before .before .before .before .before .args in Skips (a .owner) (a .start .now) (a .slots .now) (a .from) (a .from + 2)
+past-two : (c : tie.Else2) → Past (c .before .before .before .before .before) 2
 past-two c =
-    let one = c .before .before in
-    let i = one .before .before .before .args .from in
-    more _ _ _ i (i + 1) _ (omega arith) (omega arith) (past-one one) (sym (c .before .answers-at2 .ensures) ∙ c .if2 .left)
+    let i = c .before .before .before .before .before .args .from in
+    more _ _ _ i (i + 1) _ (omega arith) (omega arith) (past-one (c .before .before)) (sym (c .before .answers-at2 .ensures) ∙ c .if2 .left)
 
 returns-3 : tie.Need-returns-3
 returns-3 c = (omega arith, past-two (c .before .before))
 
-past-three : (c : tie.Else3) →
-    let a = c .before .before .before .before .before .before .before .args in
-    Skips (a .owner) (a .start .now) (a .slots .now) (a .from) (a .from + 3)
+past-three : (c : tie.Else3) → let two = c .before .before in Past (two .before .before .before .before .before) 3
 past-three c =
     let two = c .before .before in
     let i = two .before .before .before .before .before .args .from in
@@ -54,7 +55,8 @@ returns-4 c = (omega arith, past-three (c .before .before))
 returns-5 : tie.Need-returns-5
 returns-5 c =
     let three = c .before .before in
-    let i = three .before .before .before .before .before .before .before .args .from in
+    let two = three .before .before in
+    let i = two .before .before .before .before .before .args .from in
     (omega arith, more _ _ _ i (i + 3) _ (omega arith) (omega arith) (past-three three) (sym (c .before .answers-at4 .ensures) ∙ c .if4 .left))
 
 pub skip-four-spec : {M : Type 1} → statement M

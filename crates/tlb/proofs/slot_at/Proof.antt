@@ -5,19 +5,6 @@ use borrow.Author.Needs.{needs}
 use Rattle.tlb.proofs.slot_at.Statement.{statement}
 use Rattle.tlb.proofs.slot_at.Tie as tie
 
--- src/lib.rt:23:13
--- src/lib.rt:25:16
--- src/lib.rt:25:16
--- src/lib.rt:26:21
--- src/lib.rt:26:15
--- src/lib.rt:26:15
--- src/lib.rt:27:21
--- src/lib.rt:27:15
--- src/lib.rt:27:15
--- src/lib.rt:28:22
--- src/lib.rt:28:16
--- src/lib.rt:28:16
--- src/lib.rt:19:1
 returns : tie.Need-returns
 returns c =
     let s = c .before .before .before .before in

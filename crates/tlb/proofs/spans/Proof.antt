@@ -6,7 +6,9 @@ use Rattle.tlb.proofs.spans.Tie as tie
 
 returns : tie.Need-returns
 unfolding spansOf
-returns c = rw (← (c .before .before .before .larger .ensures), ← (c .before .before .larger2 .ensures), ← (c .before .larger3 .ensures), ← (c .larger4 .ensures))
+returns c =
+    let l = c .before .before in
+    rw (← (l .before .larger .ensures), ← (l .larger2 .ensures), ← (c .before .larger3 .ensures), ← (c .larger4 .ensures))
 
 pub spans-spec : {M : Type 1} → statement M
 spans-spec =
