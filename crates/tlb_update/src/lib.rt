@@ -6,7 +6,8 @@ ghost use Prim.Native.Nat.{_+_, _*_, _≤_, _%_};
 ghost use lib.ListN.{length};
 ghost use Rattle.laws.specs.Tests.{tick, count, first};
 ghost use Rattle.machine.specs.Slots.{slotsOf, wordsOf, slotOf, withSlot, onSlot, isLive, partitionOf, isLocked, answersTo};
-ghost use Rattle.machine.specs.Insertion.{overlaps, emptiedBy, removed, removes, entryOf, candidate, wants, choice, stored, displacedBy, inserted, placed, hasSlot};
+ghost use Rattle.machine.specs.Insertion.{overlaps, emptiedBy, removed, removes};
+ghost use Rattle.machine.specs.Insertion.{entryOf, candidate, wants, choice, stored, displacedBy, inserted, placed, hasSlot};
 ghost use Rattle.tlb_update.specs.Sieves.{spansFor, passes, Sifts, NonePass};
 use laws::Found;
 use machine::Choice;
@@ -20,40 +21,25 @@ use machine::Wanted;
 fn owned_by(x: Slot, owner: u64) -> bool
     ensures { λ r. ⌜ r ≡ (isLive x && eqb (x .owner) owner) ⌝ }
 {
-    if !tlb::is_live(x) {
-        return false;
-    }
-    x.owner == owner
+    tlb::is_live(x) && x.owner == owner
 }
 
 // The entry that answers to a key.
 pub fn answers(x: Slot, key: Key) -> bool
     ensures { λ r. ⌜ r ≡ answersTo key x ⌝ }
 {
-    if x.owner != tlb::key_owner(key) {
-        return false;
-    }
-    if pages::page_start(x.word % 16, tlb::key_address(key)) != x.page {
-        return false;
-    }
-    tlb::is_live(x)
+    tlb::is_live(x) && (x.owner == tlb::key_owner(key) && tlb::holds(x, tlb::key_address(key)))
 }
 
 // A partition's unlocked entry.
 fn unlocked_of(x: Slot, partition: u64) -> bool
     ensures { λ r. ⌜ r ≡ (isLive x && (eqb (partitionOf x) partition && not (isLocked x))) ⌝ }
 {
-    if !tlb::is_live(x) {
-        return false;
-    }
-    if x.owner >> 14 != partition {
-        return false;
-    }
-    x.flags % 2 != 1
+    tlb::is_live(x) && (tlb::partition_of(x) == partition && !tlb::is_locked(x))
 }
 
 // Whether a removal takes the slot's entry.
-pub fn takes(which: Removal, x: Slot) -> bool
+fn takes(which: Removal, x: Slot) -> bool
     ensures { λ r. ⌜ r ≡ removes which x ⌝ }
 {
     match which {
@@ -99,7 +85,7 @@ fn sieve_of(which: Removal) -> Sieve
         },
         Removal::Overlapping(new) => Sieve::Pages {
             page: new.page,
-            size: pages::page_size(new.word % 16),
+            size: pages::page_size(tlb::size_code(new)),
         },
     }
 }
@@ -142,13 +128,13 @@ fn passes(slots: &[u64], i: usize, sieve: Sieve, span: &[u64; 16]) -> bool
     requires { ⌜ (i * 4 + 4 ≤ length (now slots)) × (now span ≡ spansFor sieve) ⌝ }
     ensures { λ r. ⌜ r ≡ passes sieve (slotOf (now (slots .entry)) i) ⌝ }
 {
-    let k = i * 4;
+    let x = tlb::slot_at(slots, i);
     match sieve {
         Sieve::Pages { page, size: _ } => {
-            let code = (slots[k + 2] % 16) as usize;
-            page ^ slots[k + 1] <= span[code]
+            let code = tlb::size_code(x) as usize;
+            page ^ x.page <= span[code]
         }
-        Sieve::Owners { owner, spread } => owner ^ slots[k] <= spread,
+        Sieve::Owners { owner, spread } => owner ^ x.owner <= spread,
     }
 }
 
@@ -157,19 +143,13 @@ fn next(slots: &[u64], from: usize, sieve: Sieve, span: &[u64; 16]) -> usize
     requires { ⌜ (from * 4 ≤ length (now slots)) × (now span ≡ spansFor sieve) ⌝ }
     ensures { λ r. ⌜ NonePass sieve (now (slots .entry)) from r ⌝ }
 {
-    let n = slots.len() / 4;
+    let n = slots.len() / machine::SLOT_WORDS;
     let mut i = from;
     while i + 3 < n {
-        if passes(slots, i, sieve, span) {
-            return i;
-        }
-        if passes(slots, i + 1, sieve, span) {
-            return i;
-        }
-        if passes(slots, i + 2, sieve, span) {
-            return i;
-        }
-        if passes(slots, i + 3, sieve, span) {
+        if passes(slots, i, sieve, span)
+            || (passes(slots, i + 1, sieve, span)
+                || (passes(slots, i + 2, sieve, span) || passes(slots, i + 3, sieve, span)))
+        {
             return i;
         }
         i += 4;
@@ -185,7 +165,7 @@ pub fn remove(slots: &mut [u64], which: Removal) -> u64
 {
     let sieve = sieve_of(which);
     let span = spans_of(sieve);
-    let n = slots.len() / 4;
+    let n = slots.len() / machine::SLOT_WORDS;
     let mut taken = 0;
     let mut i = next(slots, 0, sieve, &span);
     while i < n {
@@ -199,12 +179,12 @@ pub fn remove(slots: &mut [u64], which: Removal) -> u64
 pub fn new_entry(key: Key, locked: bool, word: u64) -> Slot
     ensures { λ r. ⌜ r ≡ entryOf key locked word ⌝ }
 {
-    let lock = if locked { 1 } else { 0 };
+    let flags = if locked { 3 } else { 2 };
     Slot {
         owner: tlb::key_owner(key),
         page: pages::page_start(word % 16, tlb::key_address(key)),
         word: word,
-        flags: lock + 2,
+        flags: flags,
     }
 }
 
@@ -212,33 +192,25 @@ pub fn new_entry(key: Key, locked: bool, word: u64) -> Slot
 fn displaceable(old: Slot) -> bool
     ensures { λ r. ⌜ r ≡ candidate old ⌝ }
 {
-    if !tlb::is_live(old) {
-        return false;
-    }
-    old.flags % 2 != 1
+    tlb::is_live(old) && !tlb::is_locked(old)
 }
 
 // Whether the slot is what a choice looks for.
-pub fn wanted_slot(wanted: Wanted, x: Slot) -> bool
+fn wanted_slot(wanted: Wanted, x: Slot) -> bool
     ensures { λ r. ⌜ r ≡ wants candidate wanted x ⌝ }
 {
     match wanted {
         Wanted::Empty => !tlb::is_live(x),
-        Wanted::Unused => {
-            if !displaceable(x) {
-                return false;
-            }
-            (x.flags >> 1) % 2 != 1
-        }
+        Wanted::Unused => displaceable(x) && !tlb::is_used(x),
         Wanted::Candidate => displaceable(x),
     }
 }
 
 // The lowest slot that is wanted.
-pub fn lowest(slots: &[u64], wanted: Wanted) -> Found
+fn lowest(slots: &[u64], wanted: Wanted) -> Found
     ensures { λ r. ⌜ r ≡ first (wants candidate wanted) (slotsOf (now (slots .entry))) ⌝ }
 {
-    let n = slots.len() / 4;
+    let n = slots.len() / machine::SLOT_WORDS;
     let mut i = 0;
     let found = loop {
         if i == n {
@@ -254,7 +226,7 @@ pub fn lowest(slots: &[u64], wanted: Wanted) -> Found
 }
 
 // The slot that an insertion takes.
-pub fn choose(slots: &[u64]) -> Choice
+fn choose(slots: &[u64]) -> Choice
     ensures { λ r. ⌜ r ≡ choice candidate (slotsOf (now (slots .entry))) ⌝ }
 {
     if let Found::At(slot) = lowest(slots, Wanted::Empty) {

@@ -1,8 +1,7 @@
 -- `tlb_update::has_slot` meets its contract: what is found decides, and an overlap where nothing is.
 use mathlib.Core.Path.{sym, _∙_}
-use mathlib.Core.Bool.{true, Bool·not-not}
+use mathlib.Core.Bool.{true, Bool·not-not, or-comm}
 use Rattle.laws.specs.Tests.{anyOf}
-use Rattle.laws.proofs.Bools.{or-comm}
 use Rattle.laws.proofs.Walks.{found-any, found-none}
 use Rattle.machine.specs.Slots.{slotsOf, noSlot}
 use Rattle.machine.specs.Insertion.{isEmpty, candidate, wants, hasSlot}

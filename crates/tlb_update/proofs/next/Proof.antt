@@ -1,7 +1,10 @@
--- `tlb_update::next` meets its contract. The invariant: it holds of slot i.
+-- `tlb_update::next` meets its contract. The invariant: it holds of slot i. After a turn that goes on, the four tests failed one by one.
 use Prim.Native.Nat.{_+_, _-_}
 use mathlib.Core.Path.{sym, _∙_}
+use mathlib.Core.Logic.{⊎-elim}
 use native.Mathlib.Omega.{arith}
+use borrow.Author.Needs.{needs}
+use Rattle.laws.proofs.Bools.{clash}
 use Rattle.tlb_update.specs.Sieves.{NonePass}
 use Rattle.tlb_update.proofs.Sifted.{none-more}
 use Rattle.tlb_update.proofs.next.Statement.{statement}
@@ -16,46 +19,30 @@ abbrev μ-loop : tie.MeasureT-loop
 loop-holds : tie.Need-loop-holds Inv-loop μ-loop
 loop-holds c = (omega arith, c .before .pre .0, λ j a b. absurd (omega (arith, a, b)))
 
-passes-requires : tie.Need-passes-requires Inv-loop μ-loop
-passes-requires c κs = (omega arith, c .before .before .before .pre .1)
-
 returns : tie.Need-returns Inv-loop μ-loop
 returns c = c .before .before .before .loop .inv
 
-passes-requires-2 : tie.Need-passes-requires-2 Inv-loop μ-loop
-passes-requires-2 c κs = (omega arith, c .before .before .before .before .before .pre .1)
-
-returns-2 : tie.Need-returns-2 Inv-loop μ-loop
-returns-2 c = c .before .before .before .before .before .loop .inv
-
-passes-requires-3 : tie.Need-passes-requires-3 Inv-loop μ-loop
-passes-requires-3 c κs = (omega arith, c .before .before .before .before .before .before .before .pre .1)
-
-returns-3 : tie.Need-returns-3 Inv-loop μ-loop
-returns-3 c = c .before .before .before .before .before .before .before .loop .inv
-
-passes-requires-4 : tie.Need-passes-requires-4 Inv-loop μ-loop
-passes-requires-4 c κs = (omega arith, c .before .before .before .before .before .before .before .before .before .pre .1)
-
-returns-4 : tie.Need-returns-4 Inv-loop μ-loop
-returns-4 c = c .before .before .before .before .before .before .before .before .before .loop .inv
-
 loop-again : tie.Need-loop-again Inv-loop μ-loop
 loop-again c =
-    let three = c .before .before in
-    let two = three .before .before in
+    let two = c .before in
     let one = two .before .before in
     let at = one .before .before .before in
     let a = at .before .before .args in
     let i = at .loop .i in
     let more = none-more (a .sieve) (a .slots .now) (a .from) in
-    more (i + 3) (i + 4) (omega arith) (omega arith) (sym (c .before .passes4 .ensures) ∙ c .if4 .left)
-    (more (i + 2) (i + 3) (omega arith) (omega arith) (sym (three .before .passes3 .ensures) ∙ three .if3 .left)
-    (more (i + 1) (i + 2) (omega arith) (omega arith) (sym (two .before .passes2 .ensures) ∙ two .if2 .left)
-    (more i (i + 1) (omega arith) (omega arith) (sym (one .before .passes .ensures) ∙ one .if1 .left) (at .loop .inv))))
+    let first = more i (i + 1) (omega arith) (omega arith) (sym (one .before .passes .ensures) ∙ one .if1 .left) (at .loop .inv) in
+    ⊎-elim
+    (λ w. clash (w .0 .taken) (sym (w .1) ∙ c .if4 .left))
+    (⊎-elim
+    (λ w. clash (w .2 .taken) (sym (w .3) ∙ c .if4 .left))
+    (λ w.
+    more (i + 3) (i + 4) (omega arith) (omega arith) (sym (w .3 .ensures) ∙ sym (w .4) ∙ c .if4 .left)
+    (more (i + 2) (i + 3) (omega arith) (omega arith) (sym (w .1 .ensures) ∙ w .2 .left)
+    (more (i + 1) (i + 2) (omega arith) (omega arith) (sym (two .before .passes2 .ensures) ∙ w .0 .left) first))))
+    (two .if2 .came)
 
-returns-5 : tie.Need-returns-5 Inv-loop μ-loop
-returns-5 c = c .before .loop .inv
+returns-2 : tie.Need-returns-2 Inv-loop μ-loop
+returns-2 c = c .before .loop .inv
 
 pub next-spec : {M : Type 1} → statement M
 next-spec =
@@ -65,18 +52,15 @@ next-spec =
     μ-loop
     loop-holds
     (λ c. omega arith)
-    passes-requires
+    (λ c κs. search needs)
+    (λ c. omega arith)
+    (λ c κs. search needs)
+    (λ c. omega arith)
+    (λ c κs. search needs)
+    (λ c. omega arith)
+    (λ c κs. search needs)
     returns
-    (λ c. omega arith)
-    passes-requires-2
-    returns-2
-    (λ c. omega arith)
-    passes-requires-3
-    returns-3
-    (λ c. omega arith)
-    passes-requires-4
-    returns-4
     (λ c. omega arith)
     (λ c. omega arith)
     loop-again
-    returns-5)
+    returns-2)

@@ -20,7 +20,9 @@ returns-4 : tie.Need-returns-4
 returns-4 c = rw (c .enum-told .given .1) everything-sifts
 
 returns-5 : tie.Need-returns-5
-returns-5 c = rw (c .page-size .ensures, c .before .before .before .which4 .given .1) (overlapping-sifts _)
+returns-5 c =
+    let code = c .before in
+    rw (c .page-size .ensures, code .size-code .ensures, code .before .before .which4 .given .1) (overlapping-sifts _)
 
 pub sieve-of-spec : {M : Type 1} → statement M
 sieve-of-spec =
@@ -33,6 +35,7 @@ sieve-of-spec =
     (λ c. search needs)
     enum-told
     (λ c. search needs)
+    (λ c κs. search needs)
     (λ c κs. search needs)
     returns
     returns-2
