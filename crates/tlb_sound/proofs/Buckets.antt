@@ -2,7 +2,7 @@
 use Prim.Native.Nat.{ℕ, zero, suc, _+_, _*_, _-_, _/_, _%_, _^_, _≤_, _<_}
 use mathlib.Core.Path.{_≡_, refl, ap, sym, _∙_}
 use mathlib.Core.List.{List, [], _∷_}
-use mathlib.Core.Bool.{Bool, true, false, _||_}
+use mathlib.Core.Bool.{Bool, true, false, _||_, and-false}
 use native.Mathlib.Omega.{arith}
 use native.Mathlib.Nat.{le-max-left, le-max-right, le-refl, le-trans}
 use lib.Dec.{eqb, ltb}
@@ -12,7 +12,7 @@ use lib.ListN.{length, getD, set, drop}
 use lib.Seq.{getD-set-same, getD-set-other}
 use borrow.Author.Tests.{eqb-true, eqb-false, eq-eqb, ne-eqb, ltb-true}
 use Rattle.laws.specs.Tests.{anyOf}
-use Rattle.laws.proofs.Bools.{by-test, both-ways, clash, and-left, and-right, and-no, or-left, or-right, or-other}
+use Rattle.laws.proofs.Bools.{by-test, both-ways, clash, and-left, and-right, or-left, or-right, or-other}
 use Rattle.laws.proofs.Walks.{any-pass, any-end}
 use Rattle.machine.specs.Pages.{pageShift}
 use Rattle.machine.specs.Slots.{noSlot, isLive, sizeCode, holds}
@@ -137,7 +137,7 @@ module _ (k : ℕ) (seen : List ℕ) (mark : ℕ) (s : List Slot) (j : ℕ) (h :
       (λ t. clash (eq-eqb _ mark (getD-set-same seen b₀ mark 0 m)) (rw (eqb-true b b₀ t) at e))
       (λ t.
       let n : b ≡ b₀ → ⊥ = eqb-false b b₀ t in
-      any-pass noSlot s j (inBucket k b) h (rw (ne-eqb _ b (λ g. n (sym g ∙ sym q))) (and-no (isLive (getD s j noSlot))))
+      any-pass noSlot s j (inBucket k b) h (rw (ne-eqb _ b (λ g. n (sym g ∙ sym q))) (and-false (isLive (getD s j noSlot))))
       ∙ later b (ap (λ v. eqb v mark) (sym (getD-set-other seen b₀ b mark 0 n)) ∙ e))
 
   -- slot j's bucket was not marked: it overlaps no later slot

@@ -2,7 +2,7 @@
 use Prim.Native.Nat.{ℕ, _+_, _-_, _*_, _/_, _%_, _^_, _≤_, _<_, max}
 use mathlib.Core.Path.{_≡_, refl, ap, sym, _∙_}
 use mathlib.Core.List.{List, [], _∷_}
-use mathlib.Core.Bool.{true, false, not, _&&_, _||_, and-true}
+use mathlib.Core.Bool.{true, false, not, _&&_, _||_, and-true, and-false}
 use native.Mathlib.Omega.{arith}
 use native.Mathlib.Numerals.{add-one}
 use native.Mathlib.Nat.{le-trans, le-max-right}
@@ -14,7 +14,7 @@ use lib.Pow.{split, mod-mod-pow}
 use borrow.Author.Tests.{eqb-true, eqb-false, eq-eqb, ne-eqb, lt-ltb, le-ltb, ltb-true, ltb-false, leb-true, leb-false, le-leb}
 use Rattle.laws.specs.Tests.{allOf, pairwise}
 use Rattle.laws.proofs.Alls.{all-both}
-use Rattle.laws.proofs.Bools.{by-test, both-ways, and-left, and-right, and-no}
+use Rattle.laws.proofs.Bools.{by-test, both-ways, and-left, and-right}
 use Rattle.machine.specs.Pages.{inRange, listed, pageShift, pageSize, pageStart}
 use Rattle.machine.specs.Words.{bits, wordSound}
 use Rattle.machine.specs.Slots.{noSlot, isLive, sizeCode}
@@ -128,7 +128,7 @@ reach-range page =
     rw (e, f, g) (ne-eqb ((page + 2 ^ 47) % 2 ^ 64 / 2 ^ 48) 0 (λ z. absurd (omega arith))))))
     (λ e.
     let h : 2 ^ 64 ≤ page = ltb-false page (2 ^ 64) e in
-    rw (e, le-ltb page (2 ^ 47) (omega arith), and-no (leb (2 ^ 64 - 2 ^ 47) page)) (ne-eqb (page / 2 ^ 48) 0 (λ z. absurd (omega arith))))
+    rw (e, le-ltb page (2 ^ 47) (omega arith), and-false (leb (2 ^ 64 - 2 ^ 47) page)) (ne-eqb (page / 2 ^ 48) 0 (λ z. absurd (omega arith))))
 
 reach-low : (page : ℕ) → reach page % 2 ^ 13 ≡ page % 2 ^ 13
 unfolding reach

@@ -1,12 +1,11 @@
 -- `tlb_sound::live_sound` meets its contract: the first test that fails decides.
 use Prim.Native.Nat.{ℕ, _%_, _^_}
 use mathlib.Core.Path.{_≡_, ap, sym, _∙_}
-use mathlib.Core.Bool.{Bool, not, and-true}
+use mathlib.Core.Bool.{Bool, not, and-true, and-false}
 use borrow.Author.Needs.{needs}
 use borrow.Author.Tests.{eq-eqb, ne-eqb}
 use lib.Bits.{bitAnd}
 use lib.Dec.{eqb, leb}
-use Rattle.laws.proofs.Bools.{and-no}
 use Rattle.machine.specs.Pages.{listed, pageShift, pageStart}
 use Rattle.machine.specs.Slots.{sizeCode}
 use Rattle.tlb_sound.proofs.Buckets.{masked}
@@ -35,7 +34,7 @@ returns-2 c =
     let mask = c .before .before .before in
     let s = mask .before .before in
     let x = s .args .x in
-    sym (live-left x (s .pre .0) (s .pre .1) ∙ rw (at-start mask (ne-eqb _ _ (c .if2 .taken)), and-no (leb (x .owner % 2 ^ 14) (2 ^ 13))) (and-no (listed (sizeCode x))))
+    sym (live-left x (s .pre .0) (s .pre .1) ∙ rw (at-start mask (ne-eqb _ _ (c .if2 .taken)), and-false (leb (x .owner % 2 ^ 14) (2 ^ 13))) (and-false (listed (sizeCode x))))
 
 returns-3 : tie.Need-returns-3
 returns-3 c =
