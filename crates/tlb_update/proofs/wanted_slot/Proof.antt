@@ -1,6 +1,5 @@
 -- `tlb_update::wanted_slot` meets its contract, for each kind wanted.
-use mathlib.Core.Path.{ap, sym, _∙_}
-use mathlib.Core.Bool.{not}
+use mathlib.Core.Path.{sym, _∙_}
 use borrow.Author.Needs.{needs}
 use Rattle.machine.specs.Insertion.{wants}
 use Rattle.tlb_update.proofs.wanted_slot.Statement.{statement}
