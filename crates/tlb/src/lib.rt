@@ -287,10 +287,11 @@ fn overlaps_at(slots: &[u64], j: usize, x: Slot, span: &[u64; 16]) -> bool
     requires { ⌜ (j * 4 + 4 ≤ length (now slots)) × (now span ≡ spansOf (pageSize (sizeCode x))) ⌝ }
     ensures { λ r. ⌜ r ≡ overlaps x (slotOf (now (slots .entry)) j) ⌝ }
 {
-    let y = slot_at(slots, j);
-    let code = size_code(y) as usize;
+    let k = j * machine::SLOT_WORDS;
+    let code = (slots[k + 2] % 16) as usize;
+    let distance = x.page ^ slots[k + 1];
     // starts whose xor is the larger page size or more lie in no common page
-    (x.page ^ y.page) < span[code] && overlap(x, y)
+    distance < span[code] && overlap(x, slot_at(slots, j))
 }
 
 // Whether x overlaps none of the slots from the one given on.

@@ -38,7 +38,7 @@ module _ (p : Slot → Bool) (l : List ℕ) where
       )
 
   -- a turn that leaves a slot that the test does not take
-  pub walked-past : (i taken : ℕ) (slots : List ℕ) → length l % 4 ≡ 0 → i < length l / 4 → Walked i slots taken → p (slotOf slots i) ≡ false
+  walked-past : (i taken : ℕ) (slots : List ℕ) → length l % 4 ≡ 0 → i < length l / 4 → Walked i slots taken → p (slotOf slots i) ≡ false
       → Walked (i + 1) slots taken
   walked-past i taken slots z h w n =
       walked-turn i taken slots h w (rw n (same-slot slots i (omega (arith, h, walked-length i taken slots z w)))) (rw n (omega arith))

@@ -9,9 +9,6 @@ returns : tie.Need-returns
 unfolding choice
 returns c = rw (sym (c .before .before .before .lowest .ensures) ∙ c .before .slot .given .1)
 
-enum-told : tie.Need-enum-told
-enum-told c = search needs
-
 returns-2 : tie.Need-returns-2
 unfolding choice
 returns-2 c =
@@ -47,7 +44,7 @@ choose-spec =
     (λ c κs. search needs)
     (λ c. search needs)
     returns
-    enum-told
+    (λ c. search needs)
     (λ c κs. search needs)
     (λ c. search needs)
     returns-2

@@ -9,9 +9,6 @@ use borrow.Author.Needs.{needs}
 use Rattle.tlb_update.proofs.has_slot.Statement.{statement}
 use Rattle.tlb_update.proofs.has_slot.Tie as tie
 
-enum-told : tie.Need-enum-told
-enum-told c = search needs
-
 returns : tie.Need-returns
 unfolding hasSlot wants
 returns c =
@@ -44,7 +41,7 @@ has-slot-spec =
     tie.close
     (tie.spec
     (λ c κs. search needs)
-    enum-told
+    (λ c. search needs)
     returns
     (λ c. search needs)
     (λ c κs. search needs)

@@ -39,10 +39,9 @@ slot-at-requires : tie.Need-slot-at-requires
 slot-at-requires c κs = cleared (c .before .before)
 
 store-slot-requires-2 : tie.Need-store-slot-requires-2
-store-slot-requires-2 c κs = omega (arith, cleared (c .before .before .before .before .before .before .before .before), c .before .before .before .clear-used .kept .0)
-
-enum-told : tie.Need-enum-told
-enum-told c = search needs
+store-slot-requires-2 c κs =
+    let old = c .before .before .before .before .before in
+    omega (arith, cleared (old .before .before .before), c .before .before .before .clear-used .kept .0)
 
 returns : tie.Need-returns
 returns c =
@@ -59,11 +58,11 @@ returns-2 c =
 
 returns-3 : tie.Need-returns-3
 returns-3 c =
-    let at = c .before .before .before .before .before .before .before .before .before .before .before in
+    let cl = c .before .before .before .before .before .before in
+    let at = cl .before .before .before .before .before in
     let s = at .before .before .before in
     let x = s .args .new in
     let i = at .chosen3 .given .0 .0 in
-    let cl = c .before .before .before .before .before .before in
     rw (at .chosen3 .given .1) (
       c .before .before .store-slot2 .ensures
           ∙ ap (λ (w : List ℕ). withSlot w i x) (cl .clear-used .ensures)
@@ -88,7 +87,7 @@ place-spec =
     slot-at-requires
     (λ c κs. search needs)
     store-slot-requires-2
-    enum-told
+    (λ c. search needs)
     (λ c. search needs)
     returns
     (λ c. search needs)

@@ -34,26 +34,30 @@ loop-holds c =
     (none-taken which (sieve .sieve-of .result) l 0 (c .next .result) (λ k. omega (arith, sieve .before .slice-known .given k)) (sieve .sieve-of .ensures) none)
     (walked-none (removes which) l (s .pre))
 
+abbrev start : tie.At-loop Inv-loop μ-loop → tie.Start Inv-loop μ-loop
+start at = let sieve = at .before .before .before .before .before in sieve .before .before
+
 -- the length stays
-same : (c : tie.At-loop Inv-loop μ-loop) → length (c .loop .slots) ≡ length (c .before .before .before .before .before .before .before .args .slots .now)
+same : (c : tie.At-loop Inv-loop μ-loop) → length (c .loop .slots) ≡ length (start c .args .slots .now)
 same c =
-    let s = c .before .before .before .before .before .before .before in
+    let s = start c in
     walked-length (removes (s .args .which)) (s .args .slots .now) (c .loop .i) (c .loop .taken) (c .loop .slots) (s .pre) (c .loop .inv)
 
 -- slot i is emptied where the removal takes it, and counted
 turn : (c : tie.After-remove-at Inv-loop μ-loop) →
     let at = c .before .before .before in
-    let a = at .before .before .before .before .before .before .before .args in
+    let a = start at .args in
     Walked (removes (a .which)) (a .slots .now) (at .loop .i + 1) (c .remove-at .last .0) (at .loop .taken + c .remove-at .result)
 turn c =
     let at = c .before .before .before in
-    let a = at .before .before .before .before .before .before .before .args in
+    let a = start at .args in
     let r = c .remove-at .ensures in
-    walked-turn (removes (a .which)) (a .slots .now) (at .loop .i) (at .loop .taken) (at .loop .slots) (omega arith) (at .loop .inv) (r .0) (omega (arith, r .1))
+    walked-turn (removes (a .which)) (a .slots .now) (at .loop .i) (at .loop .taken) (at .loop .slots) (omega arith) (at .loop .inv)
+    (r .0) (omega (arith, r .1))
 
-same-turn : (c : tie.After-remove-at Inv-loop μ-loop) → length (c .remove-at .last .0) ≡ length (c .before .before .before .before .before .before .before .before .before .before .args .slots .now)
+same-turn : (c : tie.After-remove-at Inv-loop μ-loop) → length (c .remove-at .last .0) ≡ length (start (c .before .before .before) .args .slots .now)
 same-turn c =
-    let s = c .before .before .before .before .before .before .before .before .before .before in
+    let s = start (c .before .before .before) in
     walked-length (removes (s .args .which)) (s .args .slots .now) _ _ (c .remove-at .last .0) (s .pre) (turn c)
 
 remove-at-requires : tie.Need-remove-at-requires Inv-loop μ-loop
@@ -62,12 +66,15 @@ remove-at-requires c κs = omega (arith, same (c .before .before))
 add-taken : tie.Need-add-taken Inv-loop μ-loop
 add-taken c =
     let called = c .before .before in
-    let a = called .before .before .before .before .before .before .before .before .before .before .args in
+    let a = start (called .before .before .before) .args in
     let l = a .slots .now in
     omega (arith, turn called .2, count-rest (removes (a .which)) (slotsOf l), slots-length l)
 
 next-requires-2 : tie.Need-next-requires-2 Inv-loop μ-loop
-next-requires-2 c κs = (omega (arith, same-turn (c .before .before .before .before)), c .before .before .before .before .before .before .before .before .before .before .before .spans-of .ensures)
+next-requires-2 c κs =
+    let called = c .before .before .before .before in
+    let at = called .before .before .before in
+    (omega (arith, same-turn called), at .before .before .before .before .spans-of .ensures)
 
 loop-less : tie.Need-loop-less Inv-loop μ-loop
 loop-less c = omega (arith, c .next2 .ensures .0)
@@ -92,7 +99,7 @@ same-length c = same (c .before)
 
 returns : tie.Need-returns Inv-loop μ-loop
 returns c =
-    let a = c .before .before .before .before .before .before .before .before .args in
+    let a = start (c .before) .args in
     let l = a .slots .now in
     let p = removes (a .which) in (
       c .before .loop .inv .1 ∙ replace-end (emptiedBy p) l _ (omega arith),

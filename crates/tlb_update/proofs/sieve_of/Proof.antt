@@ -4,9 +4,6 @@ use borrow.Author.Needs.{needs}
 use Rattle.tlb_update.proofs.sieve_of.Statement.{statement}
 use Rattle.tlb_update.proofs.sieve_of.Tie as tie
 
-enum-told : tie.Need-enum-told
-enum-told c = search needs
-
 returns : tie.Need-returns
 returns c = rw (c .key-address .ensures, c .before .before .which .given .1) (page-sifts _)
 
@@ -33,7 +30,7 @@ sieve-of-spec =
     (λ c. search needs)
     (λ c κs. search needs)
     (λ c. search needs)
-    enum-told
+    (λ c. search needs)
     (λ c. search needs)
     (λ c κs. search needs)
     (λ c κs. search needs)

@@ -5,9 +5,6 @@ use borrow.Author.Needs.{needs}
 use Rattle.tlb_update.proofs.takes.Statement.{statement}
 use Rattle.tlb_update.proofs.takes.Tie as tie
 
-enum-told : tie.Need-enum-told
-enum-told c = search needs
-
 returns : tie.Need-returns
 unfolding removes
 returns c = c .answers .ensures ∙ rw (c .before .before .which .given .1)
@@ -39,7 +36,7 @@ takes-spec =
     (λ c κs. search needs)
     (λ c. search needs)
     (λ c κs. search needs)
-    enum-told
+    (λ c. search needs)
     (λ c κs. search needs)
     (λ c. search needs)
     (λ c κs. search needs)
