@@ -71,17 +71,19 @@ near a b k e =
 one-block : (a b k : ℕ) → bitXor a b < 2 ^ k → a / 2 ^ k ≡ b / 2 ^ k
 one-block a b k h = xor-zero (a / 2 ^ k) (b / 2 ^ k) (sym (xor-shr a b k) ∙ div-eq-of-lt h)
 
+-- a page holds no address whose xor with its start is its size or more
+far-holds : (x : Slot) (a : ℕ) → pageSize (sizeCode x) ≤ bitXor (x .page) a → holds x a ≡ false
+far-holds x a h =
+    ne-eqb _ _ (λ (e : pageStart (sizeCode x) a ≡ x .page).
+    omega (arith, near (x .page) a (pageShift (sizeCode x)) (start-block (sizeCode x) (x .page) a e)))
+
 -- starts whose xor is the larger page size or more lie in no common page
 pub over-far : (x y : Slot) → getD (spansOf (pageSize (sizeCode x))) (sizeCode y) 0 ≤ bitXor (x .page) (y .page) → overlaps x y ≡ false
 unfolding overlaps
 over-far x y h =
     let m : max (pageSize (sizeCode x)) (pageSize (sizeCode y)) ≤ bitXor (x .page) (y .page) = rw (span-at (sizeCode x) (sizeCode y) (omega arith)) at h in
-    let p : holds x (y .page) ≡ false =
-    ne-eqb _ _ (λ (e : pageStart (sizeCode x) (y .page) ≡ x .page).
-    omega (arith, le-trans (le-max-left _ _) m, near (x .page) (y .page) (pageShift (sizeCode x)) (start-block (sizeCode x) (x .page) (y .page) e))) in
-    let q : holds y (x .page) ≡ false =
-    ne-eqb _ _ (λ (e : pageStart (sizeCode y) (x .page) ≡ y .page).
-    omega (arith, le-trans (le-max-right _ _) m, near (x .page) (y .page) (pageShift (sizeCode y)) (sym (start-block (sizeCode y) (y .page) (x .page) e)))) in
+    let p = far-holds x (y .page) (le-trans (le-max-left _ _) m) in
+    let q = far-holds y (x .page) (rw (xor-comm (y .page) (x .page)) (le-trans (le-max-right _ _) m)) in
     rw (p, q, and-false (eqb (x .owner) (y .owner)), and-false (isLive y)) (and-false (isLive x))
 
 -- a page at a page start holds an address whose xor with it is below its size

@@ -48,9 +48,12 @@ shift-at-most code k p q r s =
 pub block-wide : (m code : ℕ) → code ≤ m → pageShift code ≤ blockShift m
 unfolding blockShift
 block-wide m code h =
-    by-test (ltb m 1) (λ b. rw b (shift-at-most code 13 (λ e. omega arith) (λ e. omega (arith, ltb-true m 1 b)) (λ e. omega (arith, ltb-true m 1 b)) (λ e. omega (arith, ltb-true m 1 b)))) (λ b1.
-    by-test (ltb m 3) (λ b. rw (b1, b) (shift-at-most code 16 (λ e. omega arith) (λ e. omega arith) (λ e. omega (arith, ltb-true m 3 b)) (λ e. omega (arith, ltb-true m 3 b)))) (λ b3.
-    by-test (ltb m 5) (λ b. rw (b1, b3, b) (shift-at-most code 22 (λ e. omega arith) (λ e. omega arith) (λ e. omega arith) (λ e. omega (arith, ltb-true m 5 b))))
+    by-test (ltb m 1)
+    (λ b. let l = ltb-true m 1 b in rw b (shift-at-most code 13 (λ e. omega arith) (λ e. omega arith) (λ e. omega arith) (λ e. omega arith))) (λ b1.
+    by-test (ltb m 3)
+    (λ b. let l = ltb-true m 3 b in rw (b1, b) (shift-at-most code 16 (λ e. omega arith) (λ e. omega arith) (λ e. omega arith) (λ e. omega arith))) (λ b3.
+    by-test (ltb m 5)
+    (λ b. let l = ltb-true m 5 b in rw (b1, b3, b) (shift-at-most code 22 (λ e. omega arith) (λ e. omega arith) (λ e. omega arith) (λ e. omega arith)))
     (λ b5. rw (b1, b3, b5) (shift-small code))))
 
 pub block-small : (m : ℕ) → blockShift m ≤ 28

@@ -26,7 +26,7 @@ use Rattle.machine.proofs.Sound.{Live, live-parts, dead-zero}
 use Rattle.tlb_sound.specs.Buckets.{largestCode}
 use Rattle.tlb_sound.specs.Digests.{reach, digestOne, joined, joinedAll, noDigest, digestOf, excess, fieldsFit, rest, plain}
 use Rattle.tlb_sound.specs.declared.Digest.{Digest}
-use Rattle.tlb_sound.proofs.Buckets.{empty-overlaps}
+use Rattle.tlb_sound.proofs.Buckets.{empty-overlaps, masked}
 
 ruleset conj = (and-left, and-right)
 
@@ -249,10 +249,10 @@ real-low o =
     let r : o / 2 ^ 13 % 2 ≡ 1 → ⊥ = eqb-false _ 1 e in
     rw e (le-leb (o % 2 ^ 14) (2 ^ 13) (omega arith)))
 
-pub live-left : (x : Slot) → isLive x ≡ true → fieldsFit (digestOne x) ≡ true
+live-rest : (x : Slot) → isLive x ≡ true → fieldsFit (digestOne x) ≡ true
     → liveSound x ≡ (listed (sizeCode x) && (leb (x .owner % 2 ^ 14) (2 ^ 13) && eqb (pageStart (sizeCode x) (x .page)) (x .page)))
 unfolding liveSound wordSound ownerSound pageSound
-live-left x l t =
+live-rest x l t =
     let f = fits (digestOne x) t in
     let p : ltb (x .owner / 2 ^ 14) 8 ≡ true = lt-ltb (x .owner / 2 ^ 14) 8 (omega (arith, f .owners)) in
     let r : inRange (x .page) ≡ true = sym (reach-range (x .page)) ∙ eq-eqb _ 0 (f .pages) in
@@ -266,17 +266,23 @@ plain-sound x t u =
     let f = fits (digestOne x) t in
     let p = plains (digestOne x) u in
     let l : isLive x ≡ true = eq-eqb (x .word / 2 ^ 63) 1 (omega (arith, f .small, p .live)) in
-    rw l (live-left x l t ∙ rw (p .code, le-leb (x .owner % 2 ^ 14) (2 ^ 13) (omega (arith, p .real)))
+    rw l (live-rest x l t ∙ rw (p .code, le-leb (x .owner % 2 ^ 14) (2 ^ 13) (omega (arith, p .real)))
     (eq-eqb (x .page / 2 ^ 13 * 2 ^ 13) (x .page) (omega (arith, sym (reach-low (x .page)) ∙ f .starts))))
 
 -- exactly the listed codes have a page of more than one byte
-pub listed-mask : (code : ℕ) → listed code ≡ not (eqb (pageSize code - 1) 0)
+listed-mask : (code : ℕ) → listed code ≡ not (eqb (pageSize code - 1) 0)
 unfolding listed pageShift
 listed-mask code =
     by-test (eqb code 0) (λ e. rw e) (λ e0.
     by-test (eqb code 1) (λ e. rw (e0, e)) (λ e1.
     by-test (eqb code 3) (λ e. rw (e0, e1, e)) (λ e3.
     by-test (eqb code 5) (λ e. rw (e0, e1, e3, e)) (λ e5. rw (e0, e1, e3, e5)))))
+
+-- by the mask of the page
+pub live-left : (x : Slot) → isLive x ≡ true → fieldsFit (digestOne x) ≡ true →
+    let mask = pageSize (sizeCode x) - 1 in
+    liveSound x ≡ (not (eqb mask 0) && (leb (x .owner % 2 ^ 14) (2 ^ 13) && eqb (bitAnd (x .page) mask) 0))
+live-left x l t = live-rest x l t ∙ rw (listed-mask (sizeCode x), ← (masked (x .page) (pageShift (sizeCode x))))
 
 -- ---- a side
 pub side-fits : (s : List Slot) → allOf slotSound s ≡ true → fieldsFit (digestOf s) ≡ true

@@ -9,6 +9,7 @@ ghost use Rattle.machine.specs.Slots.{slotsOf, slotOf, isLive, sizeCode};
 ghost use Rattle.machine.specs.Insertion.{overlaps};
 ghost use Rattle.machine.specs.Sound.{liveSound, emptySound, slotSound, sideSound};
 ghost use Rattle.tlb.specs.Tables.{spansOf};
+ghost use Rattle.tlb_sound.specs.Asked.{LiveSound, SlotsSound};
 ghost use Rattle.tlb_sound.specs.Buckets.{largestCode, blockShift, bucketOf};
 ghost use Rattle.tlb_sound.specs.Digests.{digestOne, joined, digestOf, fieldsFit, plain};
 use machine::Slot;
@@ -40,7 +41,7 @@ fn gather(d: Digest, x: Slot) -> Digest
 fn digest_of(slots: &[u64]) -> Digest
     ensures { λ r. ⌜ r ≡ digestOf (slotsOf (now (slots .entry))) ⌝ }
 {
-    let n = slots.len() / 4;
+    let n = slots.len() / machine::SLOT_WORDS;
     let mut d = Digest {
         owners: 0,
         pages: 0,
@@ -60,32 +61,16 @@ fn digest_of(slots: &[u64]) -> Digest
 fn fields_fit(d: Digest) -> bool
     ensures { λ r. ⌜ r ≡ fieldsFit d ⌝ }
 {
-    if 0x2_0000 <= d.owners {
-        return false;
-    }
-    if 0x1_0000_0000_0000 <= d.pages {
-        return false;
-    }
-    if d.pages % 0x2000 != 0 {
-        return false;
-    }
-    if (d.words >> 40) % 0x1_0000 != 0 {
-        return false;
-    }
-    d.flags < 4
+    d.owners < 0x2_0000
+        && (d.pages < 0x1_0000_0000_0000
+            && (d.pages % 0x2000 == 0 && ((d.words >> 40) % 0x1_0000 == 0 && d.flags < 4)))
 }
 
 // Whether every slot is live and virtual and has size code 0: there is nothing more to ask of one whose fields fit.
 fn all_plain(d: Digest) -> bool
     ensures { λ r. ⌜ r ≡ plain d ⌝ }
 {
-    if d.words % 16 != 0 {
-        return false;
-    }
-    if (d.owners >> 13) % 2 != 0 {
-        return false;
-    }
-    d.common >> 63 == 1
+    d.words % 16 == 0 && ((d.owners >> 13) % 2 == 0 && d.common >> 63 == 1)
 }
 
 // Whether a live slot whose fields fit is sound: a listed size, at a page start, and context 0 when real.
@@ -93,31 +78,15 @@ fn live_sound(x: Slot) -> bool
     requires { ⌜ (isLive x ≡ true) × (fieldsFit (digestOne x) ≡ true) ⌝ }
     ensures { λ r. ⌜ r ≡ liveSound x ⌝ }
 {
-    let mask = pages::page_mask(x.word % 16);
-    // an unlisted code has no page
-    if mask == 0 {
-        return false;
-    }
-    if x.page & mask != 0 {
-        return false;
-    }
-    // the real bit stands above the context
-    x.owner % 0x4000 <= 0x2000
+    let mask = pages::page_mask(tlb::size_code(x));
+    // an unlisted code has no page, and the real bit stands above the context
+    mask != 0 && (x.owner % 0x4000 <= 0x2000 && x.page & mask == 0)
 }
 
 fn empty_sound(x: Slot) -> bool
     ensures { λ r. ⌜ r ≡ emptySound x ⌝ }
 {
-    if x.owner != 0 {
-        return false;
-    }
-    if x.page != 0 {
-        return false;
-    }
-    if x.word != 0 {
-        return false;
-    }
-    x.flags == 0
+    x.owner == 0 && (x.page == 0 && (x.word == 0 && x.flags == 0))
 }
 
 // Whether a slot whose fields fit is sound by itself.
@@ -125,10 +94,11 @@ fn slot_sound(x: Slot) -> bool
     requires { ⌜ fieldsFit (digestOne x) ≡ true ⌝ }
     ensures { λ r. ⌜ r ≡ slotSound x ⌝ }
 {
-    if x.word >> 63 == 1 {
-        return live_sound(x);
+    if tlb::is_live(x) {
+        live_sound(x)
+    } else {
+        empty_sound(x)
     }
-    empty_sound(x)
 }
 
 // Whether each slot is sound by itself. A side of virtual 8 KB pages is settled by its digest.
@@ -142,7 +112,7 @@ fn slots_sound(slots: &[u64], d: Digest) -> bool
     if all_plain(d) {
         return true;
     }
-    let n = slots.len() / 4;
+    let n = slots.len() / machine::SLOT_WORDS;
     let mut i = 0;
     while i < n {
         let x = tlb::slot_at(slots, i);
@@ -178,32 +148,25 @@ fn bucket(owner: u64, page: u64, shift: u64) -> usize
 
 // Whether a live x overlaps slot j. Both are sound, and the spans are those of x's page size.
 fn overlaps_sound(slots: &[u64], j: usize, x: Slot, span: &[u64; 16]) -> bool
-    requires { ⌜ (j * 4 + 4 ≤ length (now slots)) × (isLive x ≡ true) × (slotSound x ≡ true) × (slotSound (slotOf (now slots) j) ≡ true)
+    requires { ⌜ (j * 4 + 4 ≤ length (now slots)) × LiveSound x × (slotSound (slotOf (now slots) j) ≡ true)
         × (now span ≡ spansOf (pageSize (sizeCode x))) ⌝ }
     ensures { λ r. ⌜ r ≡ overlaps x (slotOf (now (slots .entry)) j) ⌝ }
 {
-    let k = j * 4;
+    let k = j * machine::SLOT_WORDS;
     let word = slots[k + 2];
     let code = (word % 16) as usize;
     let distance = x.page ^ slots[k + 1];
-    // page starts lie in a common page where their xor is below the larger page size
-    if distance >= span[code] {
-        return false;
-    }
-    if slots[k] != x.owner {
-        return false;
-    }
-    // an empty slot looks like owner 0, page 0
-    word >> 63 == 1
+    // page starts lie in a common page where their xor is below the larger page size; an empty slot looks like owner 0, page 0
+    distance < span[code] && (slots[k] == x.owner && word >> 63 == 1)
 }
 
 // Whether a live x overlaps none of the slots from the one given on. All are sound.
 fn clear_of_later(slots: &[u64], x: Slot, from: usize) -> bool
-    requires { ⌜ (isLive x ≡ true) × (slotSound x ≡ true) × (allOf slotSound (slotsOf (now slots)) ≡ true) ⌝ }
+    requires { ⌜ LiveSound x × SlotsSound (now slots) ⌝ }
     ensures { λ r. ⌜ r ≡ not (anyOf (overlaps x) (drop from (slotsOf (now (slots .entry))))) ⌝ }
 {
-    let span = tlb::spans(pages::page_size(x.word % 16));
-    let n = slots.len() / 4;
+    let span = tlb::spans(pages::page_size(tlb::size_code(x)));
+    let n = slots.len() / machine::SLOT_WORDS;
     let mut j = from;
     while j < n {
         if overlaps_sound(slots, j, x, &span) {
@@ -216,27 +179,25 @@ fn clear_of_later(slots: &[u64], x: Slot, from: usize) -> bool
 
 // The same, where a slot that has its bucket for itself is known to overlap none.
 fn shared_overlaps_none(slots: &[u64], x: Slot, from: usize, shared: bool) -> bool
-    requires { ⌜ (isLive x ≡ true) × (slotSound x ≡ true) × (allOf slotSound (slotsOf (now slots)) ≡ true) × (shared ≡ false → anyOf (overlaps x) (drop from (slotsOf (now slots))) ≡ false) ⌝ }
+    requires { ⌜ LiveSound x × SlotsSound (now slots)
+        × (shared ≡ false → anyOf (overlaps x) (drop from (slotsOf (now slots))) ≡ false) ⌝ }
     ensures { λ r. ⌜ r ≡ not (anyOf (overlaps x) (drop from (slotsOf (now (slots .entry))))) ⌝ }
 {
-    if shared {
-        return clear_of_later(slots, x, from);
-    }
-    true
+    !shared || clear_of_later(slots, x, from)
 }
 
 // Whether no two of the slots, each sound by itself, overlap: from the last slot to the first. No size code is above the one given. A bucket
 // that has a slot holds the mark; what else the table holds costs time alone.
 fn overlap_free(slots: &[u64], code: u64, seen: &mut [u8], mark: u8) -> bool
-    requires { ⌜ (allOf slotSound (slotsOf (now slots)) ≡ true) × (largestCode (slotsOf (now slots)) ≤ code) × (length (now seen) ≡ 1024) ⌝ }
+    requires { ⌜ SlotsSound (now slots) × (largestCode (slotsOf (now slots)) ≤ code) × (length (now seen) ≡ 1024) ⌝ }
     ensures { λ r. ⌜ r ≡ pairwise overlaps (slotsOf (now (slots .entry))) ⌝ }
 {
     let most = block_shift(code);
-    let mut i = slots.len() / 4;
+    let mut i = slots.len() / machine::SLOT_WORDS;
     while 0 < i {
         i -= 1;
         let x = tlb::slot_at(slots, i);
-        if x.word >> 63 == 1 {
+        if tlb::is_live(x) {
             let b = bucket(x.owner, x.page, most);
             if !shared_overlaps_none(slots, x, i + 1, seen[b] == mark) {
                 return false;

@@ -13,7 +13,6 @@ use Rattle.machine.specs.Insertion.{overlaps}
 use Rattle.machine.specs.Sound.{slotSound}
 use Rattle.machine.proofs.Sound.{no-slot-sound}
 use Rattle.machine.proofs.Slots.{slots-length}
-use Rattle.tlb.specs.Tables.{spansOf}
 use Rattle.tlb_sound.proofs.clear_of_later.Statement.{statement}
 use Rattle.tlb_sound.proofs.clear_of_later.Tie as tie
 
@@ -29,13 +28,13 @@ loop-holds c = refl
 overlaps-sound-requires : tie.Need-overlaps-sound-requires Inv-loop μ-loop
 overlaps-sound-requires c κs =
     let s = c .before .before .before in
-    let f = s .before .before .before .before in
+    let code = s .before .before in
+    let f = code .before .before in
     let l = f .args .slots .now in (
       omega arith,
       f .pre .0,
-      f .pre .1,
-      all-get slotSound noSlot (slotsOf l) (c .before .before .loop .j) no-slot-sound (f .pre .2),
-      s .spans .ensures ∙ ap spansOf (s .before .page-size .ensures),
+      all-get slotSound noSlot (slotsOf l) (c .before .before .loop .j) no-slot-sound (f .pre .1),
+      s .spans .ensures ∙ rw (s .before .page-size .ensures, code .size-code .ensures),
     )
 
 returns : tie.Need-returns Inv-loop μ-loop
@@ -67,6 +66,7 @@ clear-of-later-spec =
     (tie.spec
     Inv-loop
     μ-loop
+    (λ c κs. search needs)
     (λ c κs. search needs)
     (λ c κs. search needs)
     loop-holds

@@ -1,12 +1,12 @@
 -- `tlb_sound::digest_of` meets its contract. The invariant: what is gathered so far and the slots from i on make the digest of all.
-use Prim.Native.Nat.{_+_, _-_, _≤_}
-use mathlib.Core.Path.{_≡_, refl, sym, ap, _∙_}
+use Prim.Native.Nat.{_-_, _≤_}
+use mathlib.Core.Path.{_≡_, refl, sym, _∙_}
 use native.Mathlib.Omega.{arith}
 use borrow.Author.Needs.{needs}
 use lib.ListN.{drop}
 use Rattle.machine.specs.Slots.{slotsOf}
 use Rattle.machine.proofs.Slots.{slots-length}
-use Rattle.tlb_sound.specs.Digests.{digestOne, joined, joinedAll, digestOf}
+use Rattle.tlb_sound.specs.Digests.{joinedAll, digestOf}
 use Rattle.tlb_sound.proofs.Digests.{joined-step, joined-end}
 use Rattle.tlb_sound.proofs.digest_of.Statement.{statement}
 use Rattle.tlb_sound.proofs.digest_of.Tie as tie
@@ -23,12 +23,9 @@ loop-holds c = (search needs, refl)
 loop-again : tie.Need-loop-again Inv-loop μ-loop
 loop-again c =
     let at = c .before .before .before in
-    let s = slotsOf (at .before .before .args .slots .now) in
-    let one = c .gather .ensures ∙ ap (λ x. joined (at .loop .d) (digestOne x)) (c .before .slot-at .ensures) in (
-      omega arith,
-      ap (λ d. joinedAll d (drop (at .loop .i + 1) s)) one ∙ sym (joined-step (at .loop .d) s (at .loop .i) (omega (arith, slots-length (at .before .before .args .slots .now))))
-          ∙ at .loop .inv .1,
-    )
+    let l = at .before .before .args .slots .now in
+    let step = joined-step (at .loop .d) (slotsOf l) (at .loop .i) (omega (arith, slots-length l)) in
+    (omega arith, rw (c .gather .ensures, c .before .slot-at .ensures) (sym step ∙ at .loop .inv .1))
 
 returns : tie.Need-returns Inv-loop μ-loop
 returns c =

@@ -10,7 +10,8 @@ use Rattle.tlb_sound.proofs.gather.Tie as tie
 returns : tie.Need-returns
 unfolding reach
 returns c =
-    let sum = c .before .before .before .before .before .before .before .before .before in
+    let half = c .before .before .before .before in
+    let sum = half .before .before .before .before .before in
     rw (sum .wrapping-add-u64 .ensures, lt-ltb (sum .before .args .x .page) (2 ^ 64) (omega arith))
 
 pub gather-spec : {M : Type 1} → statement M

@@ -1,17 +1,14 @@
 -- `tlb_sound::shared_overlaps_none` meets its contract.
-use mathlib.Core.Path.{sym, ap}
-use mathlib.Core.Bool.{not}
 use borrow.Author.Needs.{needs}
+use borrow.Author.Tests.{not-true}
 use Rattle.tlb_sound.proofs.shared_overlaps_none.Statement.{statement}
 use Rattle.tlb_sound.proofs.shared_overlaps_none.Tie as tie
 
-clear-of-later-requires : tie.Need-clear-of-later-requires
-clear-of-later-requires c κs =
-    let p = c .before .before .pre in
-    (p .0, p .1, p .2)
+returns : tie.Need-returns
+returns c = let alone = not-true _ (c .if1 .taken) in rw (alone, c .before .before .pre .2 alone)
 
 returns-2 : tie.Need-returns-2
-returns-2 c = ap not (sym (c .before .before .pre .3 (c .if1 .left)))
+returns-2 c = c .clear-of-later .ensures
 
 pub shared-overlaps-none-spec : {M : Type 1} → statement M
-shared-overlaps-none-spec = tie.close (tie.spec clear-of-later-requires (λ c. search needs) returns-2)
+shared-overlaps-none-spec = tie.close (tie.spec (λ c κs. search needs) returns returns-2)
