@@ -24,7 +24,7 @@ startsOf a = byCode a (λ k. a / 2 ^ k * 2 ^ k)
 unfoldable pub spansOf : ℕ → List ℕ
 spansOf size = byCode size (λ k. max size (2 ^ k))
 
--- a slot of the owner whose page has the start that a table gives for its size code, and live, in the order of the code
+-- of the owner, at the start that a table gives for its size code, and live: in the code's order
 unfoldable pub answersBy : ℕ → List ℕ → Slot → Bool
 answersBy owner start x = eqb (x .owner) owner && (eqb (getD start (sizeCode x) 0) (x .page) && isLive x)
 

@@ -38,7 +38,7 @@ pub fn store_slot(slots: &mut [u64], i: usize, x: Slot)
     slots[k + 3] = x.flags;
 }
 
-// What stands in a slot. Bit 63 of the word.
+// What stands in a slot, each by the definition's name. It is live by bit 63 of the word.
 pub fn is_live(x: Slot) -> bool
     ensures { λ r. ⌜ r ≡ isLive x ⌝ }
 {

@@ -148,26 +148,17 @@ pub record Fits (d : Digest) : Type 0 where
   pub small : d .words / 2 ^ 64 ≡ 0
   pub flags : d .flags / 2 ^ 2 ≡ 0
 
-left-zero : (a b : ℕ) → a + b ≡ 0 → a ≡ 0
-left-zero a b e = omega arith
-
-right-zero : (a b : ℕ) → a + b ≡ 0 → b ≡ 0
-right-zero a b e = omega arith
-
 fits : (d : Digest) → fieldsFit d ≡ true → Fits d
 unfolding excess
 fits d t =
-    let after = right-zero _ _ (eqb-true (excess d) 0 t) in
-    let after2 = right-zero _ _ after in
-    let after3 = right-zero _ _ after2 in
-    let after4 = right-zero _ _ after3 in
+    let z = eqb-true (excess d) 0 t in
     record {
-      owners = left-zero _ _ (eqb-true (excess d) 0 t);
-      pages = left-zero _ _ after;
-      starts = left-zero _ _ after2;
-      words = left-zero _ _ after3;
-      small = left-zero _ _ after4;
-      flags = right-zero _ _ after4;
+      owners = omega (arith, z);
+      pages = omega (arith, z);
+      starts = omega (arith, z);
+      words = omega (arith, z);
+      small = omega (arith, z);
+      flags = omega (arith, z);
     }
 
 pub fit : (d : Digest) → Fits d → fieldsFit d ≡ true
@@ -185,14 +176,7 @@ pub record Plain (d : Digest) : Type 0 where
 
 plains : (d : Digest) → plain d ≡ true → Plain d
 unfolding rest
-plains d t =
-    let after = right-zero _ _ (eqb-true (rest d) 0 t) in
-    let bit : (n : ℕ) → n < 2 → 1 - n ≡ 0 → n ≡ 1 = λ n h e. omega arith in
-    record {
-      code = left-zero _ _ (eqb-true (rest d) 0 t);
-      real = left-zero _ _ after;
-      live = bit (bits 63 1 (d .common)) (omega arith) (right-zero _ _ after);
-    }
+plains d t = let z = eqb-true (rest d) 0 t in record { code = omega (arith, z); real = omega (arith, z); live = omega (arith, z) }
 
 pub plain-of : (d : Digest) → Plain d → plain d ≡ true
 unfolding rest
