@@ -2,14 +2,14 @@
 use mathlib.Core.Path.{refl}
 use Rattle.machine.specs.Pages.{inRange, pageShift}
 use Rattle.machine.specs.Words.{frame, physicalAt}
-use Rattle.machine.specs.Registers.{writable, allowed, resetStrands}
+use Rattle.machine.specs.Registers.{known, writable, allowed, resetStrands}
 use Rattle.machine.specs.Questions.{asked, ask, verdict}
 use Rattle.machine.specs.Access.{prepare, faultType, judge}
 use Rattle.machine.specs.Tsb.{tsbOffset, tsbPointer}
 use Rattle.machine.specs.Examples.{Starred}
 
 pub starred : Starred
-unfolding inRange pageShift frame physicalAt writable allowed resetStrands asked ask verdict prepare faultType judge tsbOffset tsbPointer
+unfolding inRange pageShift frame physicalAt known writable allowed resetStrands asked ask verdict prepare faultType judge tsbOffset tsbPointer
 starred = record {
   range = (refl, refl, refl, refl);
   accepted = λ u. refl;

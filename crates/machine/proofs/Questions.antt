@@ -129,8 +129,12 @@ unfolding known
 register-known number = numbers number 25
 
 pub register-writable : (number : ℕ) → registerWritable number ≡ writable number
-unfolding writable
-register-writable number = numbers number 21
+unfolding writable known
+register-writable number = rw (numbers number 21) (by-test (ltb number 22)
+    (λ e. rw (e, lt-ltb number 26 (omega (arith, ltb-true number 22 e)), and-true))
+    (λ e.
+    let u = ltb-false number 22 e in
+    rw (le-ltb number 6 (omega arith), le-ltb number 8 (omega arith), e, and-no)))
 
 -- nothing but the two size codes
 configuration-rest : (v : ℕ) → eqb v (v % 8 + v / 256 % 8 * 256) ≡ (eqb (bits 3 5 v) 0 && eqb (v / 2 ^ 11) 0)
@@ -150,11 +154,8 @@ configuration-good v = rw (configuration-rest v) (and-turn _ (codeListed (v % 8)
 
 -- what may be written may be read
 writable-known : (number : ℕ) → writable number ≡ true → known number ≡ true
-unfolding writable known
-writable-known number w =
-    by-test (ltb number 6) (λ e. rw e) (λ e. by-test (ltb number 8)
-    (λ f. clash (rw (e, f) at w) refl)
-    (λ f. rw (e, f) (lt-ltb number 26 (omega (arith, writable-below number w)))))
+unfolding writable
+writable-known number w = and-left (known number) _ w
 
 -- a cell that is no register
 no-register : (number value : ℕ) → known number ≡ false → allowed number value ≡ eqb value 0

@@ -228,19 +228,15 @@ pub passed-asked : (u : State) (c : Command) → verdict u c ≡ Passed → allO
 unfolding verdict
 passed-asked u c h = ask-fine (asked u c) h
 
--- registers 0 to 5 and from 8 below a bound
-range-below : (number k : ℕ) → 6 ≤ k → cond (ltb number 6) true (cond (ltb number 8) false (ltb number k)) ≡ true → number < k
-range-below number k l h = by-test (ltb number 6)
-    (λ e. omega (arith, ltb-true number 6 e))
-    (λ e. by-test (ltb number 8) (λ f. clash (rw (e, f) at h) refl) (λ f. ltb-true number k (rw (e, f) at h)))
-
 pub known-below : (number : ℕ) → known number ≡ true → number < 26
 unfolding known
-known-below number h = range-below number 26 (omega arith) h
+known-below number h = by-test (ltb number 6)
+    (λ e. omega (arith, ltb-true number 6 e))
+    (λ e. by-test (ltb number 8) (λ f. clash (rw (e, f) at h) refl) (λ f. ltb-true number 26 (rw (e, f) at h)))
 
 pub writable-below : (number : ℕ) → writable number ≡ true → number < 22
 unfolding writable
-writable-below number h = range-below number 22 (omega arith) h
+writable-below number h = ltb-true number 22 (and-right (known number) _ h)
 
 -- ---- soundness is kept
 pub key-address : (real : Bool) (partition context : ℕ) (address : VirtualAddress) → keyAddress (keyOf real partition context address) ≡ address .0

@@ -1,9 +1,9 @@
 // Registers: document 01, "Registers". Which numbers there are and the values that they may hold.
 ghost use mathlib.Core.Path.{_≡_};
-ghost use Prim.Native.Nat.{_+_, _%_, _≤_};
-ghost use lib.ListN.{length};
+ghost use mathlib.Core.Bool.{true};
+ghost use Prim.Native.Nat.{_+_};
 ghost use Rattle.machine.specs.Registers.{known, writable, baseAllowed, configurationAllowed, allowed, registersSound};
-ghost use Rattle.registers.specs.Cells.{Alike, Told};
+ghost use Rattle.registers.specs.Cells.{Range, Strand, CellsTold};
 
 // 0 to 5 and 8 to 25.
 pub fn is_known(number: u8) -> bool
@@ -20,11 +20,7 @@ pub fn is_known(number: u8) -> bool
 pub fn is_writable(number: u8) -> bool
     ensures { λ r. ⌜ r ≡ writable number ⌝ }
 {
-    match number {
-        0..=5 => true,
-        8..=21 => true,
-        _ => false,
-    }
+    is_known(number) && number < machine::FAULT_ADDRESS
 }
 
 // A TSB base: bits 12:4 zero.
@@ -38,16 +34,8 @@ fn is_base(value: u64) -> bool
 fn is_configuration(value: u64) -> bool
     ensures { λ r. ⌜ r ≡ configurationAllowed value ⌝ }
 {
-    if !pages::code_listed(value % 8) {
-        return false;
-    }
-    if !pages::code_listed((value >> 8) % 8) {
-        return false;
-    }
-    if (value >> 3) % 32 != 0 {
-        return false;
-    }
-    value >> 11 == 0
+    pages::code_listed(value % 8)
+        && (pages::code_listed((value >> 8) % 8) && ((value >> 3) % 32 == 0 && value >> 11 == 0))
 }
 
 // The value that a register may hold; a cell that is no register holds 0.
@@ -67,15 +55,15 @@ pub fn is_allowed(number: u8, value: u64) -> bool
     }
 }
 
-// Whether each of the cells from .. to holds a value that its register may hold. All may hold what the register given may: a number that
-// the compiler knows leaves one arm of the match.
-fn cells_fit(file: &[u64], from: usize, to: usize, number: u8) -> bool
-    requires { ⌜ (length (now file) ≡ 128) × (to ≤ 128) × Alike from to number ⌝ }
-    ensures { λ r. ⌜ Told (now (file .entry)) from to r ⌝ }
+// Whether a strand's cells from .. to hold what they may, where those below do. They are of one range, so that the compiler knows the arm of
+// the match that tests them.
+fn cells_fit(file: &[u64], start: usize, from: u8, to: u8) -> bool
+    requires { ⌜ Strand (now file) start × Range from to × CellsTold (now file) (start + from) true ⌝ }
+    ensures { λ r. ⌜ CellsTold (now (file .entry)) (start + to) r ⌝ }
 {
     let mut i = from;
     while i < to {
-        if !is_allowed(number, file[i]) {
+        if !is_allowed(from, file[start + i as usize]) {
             return false;
         }
         i += 1;
@@ -83,51 +71,54 @@ fn cells_fit(file: &[u64], from: usize, to: usize, number: u8) -> bool
     true
 }
 
-// The same of a strand's 32 cells; 20 to 25 hold any value.
+// Whether a strand's cells hold what they may, where those of the strands before it do.
 fn strand_fits(file: &[u64], start: usize) -> bool
-    requires { ⌜ (length (now file) ≡ 128) × (start + 32 ≤ 128) × (start % 32 ≡ 0) ⌝ }
-    ensures { λ r. ⌜ Told (now (file .entry)) start (start + 32) r ⌝ }
+    requires { ⌜ Strand (now file) start × CellsTold (now file) start true ⌝ }
+    ensures { λ r. ⌜ CellsTold (now (file .entry)) (start + 32) r ⌝ }
 {
-    if !cells_fit(file, start, start + 1, 0) {
+    if !cells_fit(file, start, 0, 1) {
         return false;
     }
-    if !cells_fit(file, start + 1, start + 3, 1) {
+    if !cells_fit(file, start, 1, 3) {
         return false;
     }
-    if !cells_fit(file, start + 3, start + 4, 3) {
+    if !cells_fit(file, start, 3, 4) {
         return false;
     }
-    if !cells_fit(file, start + 4, start + 5, 4) {
+    if !cells_fit(file, start, 4, 5) {
         return false;
     }
-    if !cells_fit(file, start + 5, start + 6, 5) {
+    if !cells_fit(file, start, 5, 6) {
         return false;
     }
-    if !cells_fit(file, start + 6, start + 8, 6) {
+    if !cells_fit(file, start, 6, 8) {
         return false;
     }
-    if !cells_fit(file, start + 8, start + 16, 8) {
+    if !cells_fit(file, start, 8, 16) {
         return false;
     }
-    if !cells_fit(file, start + 16, start + 20, 16) {
+    if !cells_fit(file, start, 16, 20) {
         return false;
     }
-    cells_fit(file, start + 26, start + 32, 26)
+    if !cells_fit(file, start, 20, 26) {
+        return false;
+    }
+    cells_fit(file, start, 26, 32)
 }
 
 // Whether a register file has 128 cells and each holds a value that its register may hold.
 pub fn file_sound(file: &[u64]) -> bool
     ensures { λ r. ⌜ r ≡ registersSound (now (file .entry)) ⌝ }
 {
-    if file.len() != 128 {
+    if file.len() != machine::REGISTER_WORDS {
         return false;
     }
     let mut start = 0;
-    while start < 128 {
+    while start < machine::REGISTER_WORDS {
         if !strand_fits(file, start) {
             return false;
         }
-        start += 32;
+        start += machine::STRAND_CELLS;
     }
     true
 }

@@ -4,9 +4,6 @@ use Rattle.machine.specs.Registers.{baseAllowed}
 use Rattle.registers.proofs.is_base.Statement.{statement}
 use Rattle.registers.proofs.is_base.Tie as tie
 
-returns : tie.Need-returns
-unfolding baseAllowed
-returns c = refl
-
 pub is-base-spec : {M : Type 1} → statement M
-is-base-spec = tie.close (tie.spec returns)
+unfolding baseAllowed
+is-base-spec = tie.close (tie.spec (λ c. refl))

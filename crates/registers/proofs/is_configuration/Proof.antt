@@ -1,28 +1,30 @@
 -- `registers::is_configuration` meets its contract: test by test.
-
-use mathlib.Core.Path.{sym, _∙_}
+use Prim.Native.Nat.{_%_, _^_}
+use mathlib.Core.Bool.{true}
+use mathlib.Core.Path.{_≡_, sym, _∙_}
 use borrow.Author.Needs.{needs}
-use borrow.Author.Tests.{not-true, not-false, ne-eqb, eq-eqb}
+use borrow.Author.Tests.{ne-eqb, eq-eqb}
+use Rattle.machine.specs.Pages.{listed}
+use Rattle.machine.specs.Words.{bits}
 use Rattle.machine.specs.Registers.{configurationAllowed}
 use Rattle.registers.proofs.is_configuration.Tie as tie
 use Rattle.registers.proofs.is_configuration.Statement.{statement}
 
-returns : tie.Need-returns
-unfolding configurationAllowed
-returns c = rw (sym (c .before .code-listed .ensures) ∙ not-true _ (c .if1 .taken))
+-- the first size code, and both
+one : (c : tie.Then1) → listed (c .before .before .args .value % 2 ^ 3) ≡ true
+one c = sym (c .before .code-listed .ensures) ∙ c .if1 .taken
 
-returns-2 : tie.Need-returns-2
-unfolding configurationAllowed
-returns-2 c = rw (sym (c .before .before .before .code-listed .ensures) ∙ not-false _ (c .before .before .if1 .left), sym (c .before .code-listed2 .ensures) ∙ not-true _ (c .if2 .taken))
-
-returns-3 : tie.Need-returns-3
-unfolding configurationAllowed
-returns-3 c = rw (sym (c .before .before .before .before .code-listed .ensures) ∙ not-false _ (c .before .before .before .if1 .left), sym (c .before .before .code-listed2 .ensures) ∙ not-false _ (c .before .if2 .left), ne-eqb _ _ (c .if3 .taken))
-
-returns-4 : tie.Need-returns-4
-unfolding configurationAllowed
-returns-4 c = rw (sym (c .before .before .before .before .code-listed .ensures) ∙ not-false _ (c .before .before .before .if1 .left), sym (c .before .before .code-listed2 .ensures) ∙ not-false _ (c .before .if2 .left), eq-eqb _ _ (c .if3 .left))
+two : (c : tie.Then2) → listed (bits 8 3 (c .before .before .before .before .args .value)) ≡ true
+two c = sym (c .before .code-listed2 .ensures) ∙ c .if2 .taken
 
 pub is-configuration-spec : {M : Type 1} → statement M
+unfolding configurationAllowed
 is-configuration-spec =
-    tie.close (tie.spec (λ c κs. search needs) returns (λ c κs. search needs) returns-2 returns-3 returns-4)
+    tie.close
+    (tie.spec
+    (λ c κs. search needs)
+    (λ c κs. search needs)
+    (λ c. rw (one (c .before .before .before), two (c .before), eq-eqb _ _ (c .if3 .taken)))
+    (λ c. rw (one (c .before .before .before), two (c .before), ne-eqb _ _ (c .if3 .left)))
+    (λ c. rw (one (c .before .before), sym (c .before .code-listed2 .ensures) ∙ c .if2 .left) (c .if2 .left))
+    (λ c. rw (sym (c .before .code-listed .ensures) ∙ c .if1 .left) (c .if1 .left)))

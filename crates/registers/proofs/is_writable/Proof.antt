@@ -1,26 +1,15 @@
--- `registers::is_writable` meets its contract: by the ranges of its arms.
-
-use native.Mathlib.Omega.{arith}
-use borrow.Author.Tests.{lt-ltb, le-ltb}
+-- `registers::is_writable` meets its contract.
+use mathlib.Core.Path.{sym, _∙_}
+use borrow.Author.Needs.{needs}
 use Rattle.machine.specs.Registers.{writable}
 use Rattle.registers.proofs.is_writable.Tie as tie
 use Rattle.registers.proofs.is_writable.Statement.{statement}
 
-returns : tie.Need-returns
-unfolding writable
-returns c = let r = c .before .args .number in simp (lt-ltb r 6 (omega arith))
-
-returns-2 : tie.Need-returns-2
-unfolding writable
-returns-2 c = let r = c .before .before .before .args .number in simp (le-ltb r 6 (omega arith), le-ltb r 8 (omega arith), lt-ltb r 22 (omega arith))
-
-returns-3 : tie.Need-returns-3
-unfolding writable
-returns-3 c = let r = c .before .before .args .number in simp (le-ltb r 6 (omega arith), lt-ltb r 8 (omega arith))
-
-returns-4 : tie.Need-returns-4
-unfolding writable
-returns-4 c = let r = c .before .before .before .args .number in simp (le-ltb r 6 (omega arith), le-ltb r 8 (omega arith), le-ltb r 22 (omega arith))
-
 pub is-writable-spec : {M : Type 1} → statement M
-is-writable-spec = tie.close (tie.spec returns returns-2 returns-3 returns-4)
+unfolding writable
+is-writable-spec =
+    tie.close
+    (tie.spec
+    (λ c κs. search needs)
+    (λ c. rw (sym (c .before .is-known .ensures) ∙ c .if1 .taken))
+    (λ c. rw (sym (c .before .is-known .ensures) ∙ c .if1 .left) (c .if1 .left)))
