@@ -131,10 +131,10 @@ register-known number = numbers number 25
 pub register-writable : (number : ℕ) → registerWritable number ≡ writable number
 unfolding writable known
 register-writable number = rw (numbers number 21) (by-test (ltb number 22)
-    (λ e. rw (e, lt-ltb number 26 (omega (arith, ltb-true number 22 e)), and-true))
+    (λ e. rw (e, lt-ltb number 26 (omega (arith, ltb-true number 22 e))))
     (λ e.
     let u = ltb-false number 22 e in
-    rw (le-ltb number 6 (omega arith), le-ltb number 8 (omega arith), e, and-no)))
+    rw (le-ltb number 6 (omega arith), le-ltb number 8 (omega arith), e)))
 
 -- nothing but the two size codes
 configuration-rest : (v : ℕ) → eqb v (v % 8 + v / 256 % 8 * 256) ≡ (eqb (bits 3 5 v) 0 && eqb (v / 2 ^ 11) 0)
@@ -155,7 +155,7 @@ configuration-good v = rw (configuration-rest v) (and-turn _ (codeListed (v % 8)
 -- what may be written may be read
 writable-known : (number : ℕ) → writable number ≡ true → known number ≡ true
 unfolding writable
-writable-known number w = and-left (known number) _ w
+writable-known number w = and-right (ltb number 22) _ w
 
 -- a cell that is no register
 no-register : (number value : ℕ) → known number ≡ false → allowed number value ≡ eqb value 0

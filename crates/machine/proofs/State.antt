@@ -236,7 +236,7 @@ known-below number h = by-test (ltb number 6)
 
 pub writable-below : (number : ℕ) → writable number ≡ true → number < 22
 unfolding writable
-writable-below number h = ltb-true number 22 (and-right (known number) _ h)
+writable-below number h = ltb-true number 22 (and-left _ (known number) h)
 
 -- ---- soundness is kept
 pub key-address : (real : Bool) (partition context : ℕ) (address : VirtualAddress) → keyAddress (keyOf real partition context address) ≡ address .0

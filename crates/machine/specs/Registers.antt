@@ -79,7 +79,7 @@ known number = cond (ltb number 6) true (cond (ltb number 8) false (ltb number 2
 
 -- 22 to 25 are read only
 unfoldable pub writable : ℕ → Bool
-writable number = known number && ltb number 22
+writable number = ltb number 22 && known number
 
 -- a TSB base: bits 4 to 12 are clear; N stands below them
 unfoldable pub baseAllowed : ℕ → Bool

@@ -20,7 +20,7 @@ pub fn is_known(number: u8) -> bool
 pub fn is_writable(number: u8) -> bool
     ensures { λ r. ⌜ r ≡ writable number ⌝ }
 {
-    is_known(number) && number < machine::FAULT_ADDRESS
+    number < machine::FAULT_ADDRESS && is_known(number)
 }
 
 // A TSB base: bits 12:4 zero.

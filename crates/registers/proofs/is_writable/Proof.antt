@@ -1,6 +1,6 @@
 -- `registers::is_writable` meets its contract.
-use mathlib.Core.Path.{sym, _∙_}
 use borrow.Author.Needs.{needs}
+use borrow.Author.Tests.{lt-ltb, le-ltb}
 use Rattle.machine.specs.Registers.{writable}
 use Rattle.registers.proofs.is_writable.Tie as tie
 use Rattle.registers.proofs.is_writable.Statement.{statement}
@@ -11,5 +11,5 @@ is-writable-spec =
     tie.close
     (tie.spec
     (λ c κs. search needs)
-    (λ c. rw (sym (c .before .is-known .ensures) ∙ c .if1 .taken))
-    (λ c. rw (sym (c .before .is-known .ensures) ∙ c .if1 .left) (c .if1 .left)))
+    (λ c. rw (lt-ltb _ 22 (c .before .if1 .taken)) (c .is-known .ensures))
+    (λ c. rw (le-ltb _ 22 (c .if1 .left))))
