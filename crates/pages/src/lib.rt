@@ -10,10 +10,7 @@ use machine::VirtualAddress;
 pub fn in_range(address: u64) -> bool
     ensures { λ r. ⌜ r ≡ inRange address ⌝ }
 {
-    if address < 0x8000_0000_0000 {
-        return true;
-    }
-    0xFFFF_8000_0000_0000 <= address
+    address < 0x8000_0000_0000 || 0xFFFF_8000_0000_0000 <= address
 }
 
 // The address that a guest gives while translation is off for the side.

@@ -85,7 +85,8 @@ fn ask_demap_page(
     flags: u8,
     address: VirtualAddress,
 ) -> Verdict
-    ensures { λ r. ⌜ r ≡ verdict (stateIn (now (state .entry))) (command.DemapPage strand side selector flags address) ⌝ }
+    ensures { λ r. ⌜ r ≡ verdict (stateIn (now (state .entry)))
+        (command.DemapPage strand side selector flags address) ⌝ }
 {
     if let Verdict::Refused(refusal) = ask_demap_context(state, strand, side, selector) {
         return Verdict::Refused(refusal);

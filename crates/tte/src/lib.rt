@@ -1,7 +1,8 @@
 // Entry words (sun4v TTEs): document 01, "Addresses and entry words".
 ghost use mathlib.Core.Path.{_≡_};
 ghost use mathlib.Core.Bool.{true};
-ghost use Rattle.machine.specs.Words.{unpacked, packed, fields, wordSound, wordInsertable, frame, physicalAt};
+ghost use Prim.Native.Nat.{_%_, _^_};
+ghost use Rattle.machine.specs.Words.{bits, unpacked, packed, fields, wordSound, wordInsertable, frame, physicalAt};
 use machine::PhysicalAddress;
 use machine::Tte;
 use machine::VirtualAddress;
@@ -42,17 +43,25 @@ pub fn pack(t: Tte) -> u64
     from_6 | (t.soft % 4) << 4 | t.size % 16
 }
 
+// Bits 3:0 of a word.
+fn size_code(word: u64) -> u64
+    ensures { λ r. ⌜ r ≡ word % 2 ^ 4 ⌝ }
+{
+    word % 16
+}
+
+// Bits 55:13 of a word, a physical address from bit 13 up.
+fn address_field(word: u64) -> u64
+    ensures { λ r. ⌜ r ≡ bits 13 43 word ⌝ }
+{
+    (word >> 13) % 0x800_0000_0000
+}
+
 // A word that a live entry may have (number 12): v set, a size code that has a page, an address below 2^40.
-pub fn word_sound(word: u64) -> bool
+fn word_sound(word: u64) -> bool
     ensures { λ r. ⌜ r ≡ wordSound word ⌝ }
 {
-    if word >> 63 != 1 {
-        return false;
-    }
-    if !pages::code_listed(word % 16) {
-        return false;
-    }
-    (word >> 40) % 0x1_0000 == 0
+    word >> 63 == 1 && (pages::code_listed(size_code(word)) && (word >> 40) % 0x1_0000 == 0)
 }
 
 // A word that an insertion takes.
@@ -64,10 +73,10 @@ pub fn word_insertable(word: u64) -> bool
 }
 
 // Where a word's page starts in physical memory.
-pub fn page_frame(word: u64) -> PhysicalAddress
+fn page_frame(word: u64) -> PhysicalAddress
     ensures { λ r. ⌜ r ≡ frame word ⌝ }
 {
-    PhysicalAddress(pages::page_start(word % 16, (word >> 13) % 0x800_0000_0000 << 13))
+    PhysicalAddress(pages::page_start(size_code(word), address_field(word) << 13))
 }
 
 // The physical address of an address in a word's page.

@@ -9,18 +9,15 @@ use Rattle.machine.specs.Pages.{inRange}
 use Rattle.pages.proofs.in_range.Statement.{statement}
 use Rattle.pages.proofs.in_range.Tie as tie
 
-returns : tie.Need-returns
+-- an address has 64 bits
+high : tie.Need-returns-2
 unfolding inRange
-returns c =
-    let t : ltb (c .before .args .address) (2 ^ 47) ≡ true = lt-ltb _ _ (c .if1 .taken) in
-    simp t
-
-returns-2 : tie.Need-returns-2
-unfolding inRange
-returns-2 c =
-    let t : ltb (c .before .args .address) (2 ^ 47) ≡ false = le-ltb _ _ (c .if1 .left) in
-    let u : ltb (c .before .args .address) (2 ^ 64) ≡ true = lt-ltb (c .before .args .address) (2 ^ 64) (omega arith) in
+high c =
+    let a = c .before .args .address in
+    let t : ltb a (2 ^ 47) ≡ false = le-ltb _ _ (c .if1 .left) in
+    let u : ltb a (2 ^ 64) ≡ true = lt-ltb a (2 ^ 64) (omega arith) in
     simp (t, u, and-true)
 
 pub in-range-spec : {M : Type 1} → statement M
-in-range-spec = tie.close (tie.spec returns returns-2)
+unfolding inRange
+in-range-spec = tie.close (tie.spec (λ c. rw (lt-ltb _ (2 ^ 47) (c .if1 .taken))) high)

@@ -9,13 +9,15 @@ use Rattle.machine.proofs.Pages.{shift-small}
 use Rattle.pages.proofs.page_size.Statement.{statement}
 use Rattle.pages.proofs.page_size.Tie as tie
 
-shl-result : tie.Need-shl-result
-shl-result c = rw (c .page-shift .ensures) (omega (arith, shift-small (c .before .args .code)))
-
 returns : tie.Need-returns
 returns c =
-    let k = pageShift (c .before .args .code) in
-    rw (c .page-shift .ensures) (shl-exact 1 k 64 (lit< tt) (omega (arith, shift-small (c .before .args .code))) ∙ omega arith)
+    let small = shift-small (c .before .args .code) in
+    rw (c .page-shift .ensures) (shl-exact 1 (pageShift (c .before .args .code)) 64 (lit< tt) (omega arith) ∙ omega arith)
 
 pub page-size-spec : {M : Type 1} → statement M
-page-size-spec = tie.close (tie.spec (λ c κs. search needs) shl-result returns)
+page-size-spec =
+    tie.close
+    (tie.spec
+    (λ c κs. search needs)
+    (λ c. omega (arith, c .page-shift .ensures, shift-small (c .before .args .code)))
+    returns)

@@ -6,11 +6,10 @@ use Rattle.machine.specs.Pages.{pageShift}
 use Rattle.pages.proofs.page_start.Statement.{statement}
 use Rattle.pages.proofs.page_start.Tie as tie
 
-sub-result : tie.Need-sub-result
-sub-result c = omega (arith, c .page-offset .ensures, split (c .before .args .address) (pageShift (c .before .args .code)))
-
-returns : tie.Need-returns
-returns c = omega (arith, c .page-offset .ensures, split (c .before .args .address) (pageShift (c .before .args .code)))
-
 pub page-start-spec : {M : Type 1} → statement M
-page-start-spec = tie.close (tie.spec (λ c κs. search needs) sub-result returns)
+page-start-spec =
+    tie.close
+    (tie.spec
+    (λ c κs. search needs)
+    (λ c. omega (arith, c .page-offset .ensures, split (c .before .args .address) (pageShift (c .before .args .code))))
+    (λ c. omega (arith, c .page-offset .ensures, split (c .before .args .address) (pageShift (c .before .args .code)))))

@@ -32,7 +32,9 @@ last n x f = rw (f .same) (or-shifted _ n _ (mod-lt x (pow-pos n)))
 returns : tie.Need-returns
 unfolding packed
 returns c =
-    let t = c .before .before .before .before .before .before .before .before .before .before .before .before .before .args .t in
+    let back = c .before .before .before .before in
+    let first = back .before .before .before .before .before in
+    let t = first .before .before .before .before .args .t in
     let v : From 63 _ (t .v % 2) = record { same = shl-exact 1 63 64 (mod-lt (t .v) (pow-pos 1)) (omega arith); room = omega arith } in
     let from-13 = behind 43 13 (t .address) (behind 6 56 (t .soft2) (behind 1 62 (t .nfo) v)) in
     let from-9 = behind 1 9 (t .cv) (behind 1 10 (t .cp) (behind 1 11 (t .e) (behind 1 12 (t .ie) from-13))) in

@@ -10,9 +10,10 @@ use Rattle.tte.proofs.page_frame.Tie as tie
 returns : tie.Need-returns
 unfolding frame
 returns c =
-    let a : ℕ = bits 13 43 (c .before .args .word) * 2 ^ 13 in
+    let a : ℕ = bits 13 43 (c .before .before .before .args .word) * 2 ^ 13 in
     let kept : a % 2 ^ 64 ≡ a = omega arith in
-    rw (c .page-start .ensures, kept)
+    rw (c .page-start .ensures, c .before .before .size-code .ensures, c .before .address-field .ensures, kept)
 
 pub page-frame-spec : {M : Type 1} → statement M
-page-frame-spec = tie.close (tie.spec (λ c κs. search needs) returns)
+page-frame-spec =
+    tie.close (tie.spec (λ c κs. search needs) (λ c κs. search needs) (λ c κs. search needs) returns)

@@ -1,26 +1,23 @@
 -- `tte::word_sound` meets its contract: the first test that fails decides.
-use mathlib.Core.Path.{sym, _∙_}
+use Prim.Native.Nat.{_%_, _^_}
+use mathlib.Core.Path.{_≡_, sym, _∙_}
 use borrow.Author.Needs.{needs}
-use borrow.Author.Tests.{eq-eqb, ne-eqb, not-true, not-false}
+use borrow.Author.Tests.{eq-eqb, ne-eqb}
+use Rattle.machine.specs.Pages.{listed as code-listed}
 use Rattle.machine.specs.Words.{wordSound}
 use Rattle.tte.proofs.word_sound.Statement.{statement}
 use Rattle.tte.proofs.word_sound.Tie as tie
 
-returns : tie.Need-returns
-unfolding wordSound
-returns c = rw (ne-eqb _ _ (c .if1 .taken))
-
-returns-2 : tie.Need-returns-2
-unfolding wordSound
-returns-2 c =
-    let listed = c .before .code-listed .ensures in
-    rw (eq-eqb _ _ (c .before .before .if1 .left), sym listed ∙ not-true _ (c .if2 .taken))
-
-returns-3 : tie.Need-returns-3
-unfolding wordSound
-returns-3 c =
-    let listed = c .before .code-listed .ensures in
-    rw (eq-eqb _ _ (c .before .before .if1 .left), sym listed ∙ not-false _ (c .if2 .left))
+listed : (c : tie.After-code-listed) → code-listed (c .before .before .before .args .word % 2 ^ 4) ≡ c .code-listed .result
+listed c = sym (rw (c .before .size-code .ensures) at (c .code-listed .ensures))
 
 pub word-sound-spec : {M : Type 1} → statement M
-word-sound-spec = tie.close (tie.spec returns (λ c κs. search needs) returns-2 returns-3)
+unfolding wordSound
+word-sound-spec =
+    tie.close
+    (tie.spec
+    (λ c κs. search needs)
+    (λ c κs. search needs)
+    (λ c. rw (eq-eqb _ _ (c .before .before .before .if1 .taken), listed (c .before) ∙ c .if2 .taken))
+    (λ c. rw (eq-eqb _ _ (c .before .before .before .if1 .taken), listed (c .before) ∙ c .if2 .left) (c .if2 .left))
+    (λ c. rw (ne-eqb _ _ (c .if1 .left))))
