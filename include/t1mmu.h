@@ -33,11 +33,18 @@ extern "C" {
 /* ---- sizes ---- */
 
 #define T1MMU_VERSION 0x010000u /* 1.0.0: major * 65536 + minor * 256 + patch */
-#define T1MMU_STATE_WORDS 640   /* 4 strands of 32 register cells, then 2 sides of 64 slots of 4 words */
+#define T1MMU_STATE_WORDS 640   /* the strands' register cells, then the slots of side 0, then those of side 1 */
 #define T1MMU_ANSWER_BYTES 24
 #define T1MMU_STRANDS 4
 #define T1MMU_SIDES 2
-#define T1MMU_SLOTS 64 /* of a side */
+#define T1MMU_SLOTS 64     /* of a side */
+#define T1MMU_REGISTERS 26 /* register numbers are below it */
+#define T1MMU_CELLS 32     /* of a strand: a word for each register number, zero where there is no such register */
+#define T1MMU_SLOT_WORDS 4 /* of a slot: owner, page, entry word, flags */
+
+/* Where in a state a strand's register stands, and where the words of a slot begin. */
+#define T1MMU_CELL_AT(strand, number) (T1MMU_CELLS * (strand) + (number))
+#define T1MMU_SLOT_AT(side, slot) (T1MMU_CELL_AT(T1MMU_STRANDS, 0) + T1MMU_SLOT_WORDS * (T1MMU_SLOTS * (side) + (slot)))
 
 /* ---- commands: the first byte; then the operands, one byte each unless marked 8, which is big-endian ---- */
 
@@ -84,11 +91,11 @@ enum t1mmu_register {
     T1MMU_MODE = 3,              /* enum t1mmu_mode */
     T1MMU_TRANSLATION = 4,       /* T1MMU_FETCH_ON + T1MMU_DATA_ON */
     T1MMU_ADDRESS_MASK = 5,      /* 0 or 1 */
-    T1MMU_TSB_BASE = 8,          /* to 15: T1MMU_TSB_BASE_OF; bits 63:13 base, 12:4 zero, 3:0 N */
-    T1MMU_TSB_CONFIGURATION = 16, /* to 19: T1MMU_TSB_CONFIGURATION_OF; bits 2:0 the ps0 size code, 10:8 ps1, the rest zero */
+    T1MMU_TSB_BASE = 8,          /* to 15, T1MMU_TSB_BASE_OF: the table's address in 63:13, its N in 3:0, zeros between */
+    T1MMU_TSB_CONFIGURATION = 16, /* to 19, T1MMU_TSB_CONFIGURATION_OF: size codes of ps0 in 2:0 and of ps1 in 10:8, else zeros */
     T1MMU_TAG_ACCESS = 20,       /* + side: address 63:13, context 12:0; any value */
     T1MMU_FAULT_ADDRESS = 22,    /* + side: the address used; read only */
-    T1MMU_FAULT_STATUS = 24      /* + side: trap number * 256 + fault type; read only */
+    T1MMU_FAULT_STATUS = 24      /* + side: the trap in 15:8, its fault type in 7:0; read only */
 };
 
 /* nonzero: 1 for the table of contexts that are not zero; ps: 0 for ps0, 1 for ps1. */
@@ -102,14 +109,18 @@ enum t1mmu_translation { T1MMU_FETCH_ON = 1, T1MMU_DATA_ON = 2 };
 /* Size codes of an entry word and of the TSB configuration. */
 enum t1mmu_page { T1MMU_8K = 0, T1MMU_64K = 1, T1MMU_4M = 3, T1MMU_256M = 5 };
 
-/* ---- answers: 24 bytes: kind, a, b, c, four zeros, two big-endian values of 8. What is not named here is 0. ---- */
+/*
+ * ---- answers: the kind in byte 0; a, b and c in bytes 1 to 3; the first value in 8 to 15 and the second in 16 to 23, big-endian ----
+ *
+ * What is not named here is 0.
+ */
 
 enum t1mmu_answer {
     T1MMU_DONE = 0,      /* first value, for 0x03 to 0x05: the count of entries removed */
     T1MMU_PHYSICAL = 1,  /* a: T1MMU_CP + T1MMU_E + T1MMU_IE of the page; first value: the physical address */
-    T1MMU_TRAP = 2,      /* a: trap number; b: fault type; first value: the address used; second: the tag access after it */
+    T1MMU_TRAP = 2,      /* a: enum t1mmu_trap; b: its fault type; first value: the address, masked or not; second: tag access as the trap left it */
     T1MMU_VALUE = 3,     /* first value: the register; or both values: the pointers of ps0 and ps1 */
-    T1MMU_DISPLACED = 4, /* b: partition; c: 1 if real; first value: page address plus context; second: the word */
+    T1MMU_DISPLACED = 4, /* b: its partition; c: 1 if it is real; first value: its page and context, as in tag access; second: its word */
     T1MMU_REFUSED = 5    /* a: enum t1mmu_refusal; the command changed nothing */
 };
 

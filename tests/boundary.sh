@@ -2,7 +2,10 @@
 # The library from outside: its C boundary under sanitizers and valgrind, and ten seconds of fuzzing.
 set -euo pipefail
 cd "$(dirname "$0")/.."
-source tests/library.bash
+source tools/library.bash
+need gcc
+need_library
+mkdir -p target/tests
 flags=(-std=c99 -O2 -g -Wall -Wextra -Werror -pedantic -Iinclude)
 sanitize=-fsanitize=address,undefined
 

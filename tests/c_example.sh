@@ -2,7 +2,10 @@
 # The C example's answers against the stream program's printed run; the header in C99 and C++.
 set -euo pipefail
 cd "$(dirname "$0")/.."
-source tests/library.bash
+source tools/library.bash
+need gcc g++
+need_library
+mkdir -p target/tests
 gcc -std=c99 -Wall -Wextra -Werror -pedantic -Iinclude -o target/tests/printed_run examples/c/printed_run.c "$library"
 g++ -Wall -Wextra -Werror -pedantic -fsyntax-only -x c++ include/t1mmu.h
 target/tests/printed_run >target/tests/printed_run.out

@@ -1,10 +1,10 @@
-//! Links libt1mmu.a from the folder in T1MMU_LIB_DIR, else from the repository's target/staticlib.
+//! Links libt1mmu.a from the folder in T1MMU_LIB, else from the repository's target/staticlib.
 use std::env;
 use std::path::PathBuf;
 
 fn main() {
-    println!("cargo:rerun-if-env-changed=T1MMU_LIB_DIR");
-    let folder = match env::var_os("T1MMU_LIB_DIR") {
+    println!("cargo:rerun-if-env-changed=T1MMU_LIB");
+    let folder = match env::var_os("T1MMU_LIB") {
         Some(folder) => PathBuf::from(folder),
         None => PathBuf::from(env::var_os("CARGO_MANIFEST_DIR").expect("cargo sets it")).join("../../target/staticlib"),
     };

@@ -5,14 +5,10 @@
 
 use std::fmt;
 
-/// The words of a state: 4 strands of 32 register cells, then 2 sides of 64 slots of 4 words.
-pub const STATE_WORDS: usize = 640;
+pub mod numbers;
+pub mod sys;
 
-/// The bytes of an answer.
-pub const ANSWER_BYTES: usize = 24;
-
-/// The version that this crate is written for: major * 65536 + minor * 256 + patch.
-pub const VERSION: u32 = 0x01_00_00;
+pub use numbers::{ANSWER_BYTES, STATE_WORDS, VERSION};
 
 /// The fields of an entry word (a sun4v TTE), from bit 63 down. `address` is bits 55:13 of the word.
 #[repr(C)]
@@ -33,26 +29,6 @@ pub struct Tte {
     pub size: u64,
 }
 
-mod sys {
-    use super::Tte;
-
-    #[repr(C)]
-    pub struct Run {
-        pub answered: usize,
-        pub taken: usize,
-        pub stop: u8,
-    }
-
-    extern "C" {
-        pub fn t1mmu_version() -> u32;
-        pub fn t1mmu_state_words() -> usize;
-        pub fn t1mmu_reset(state: *mut u64, words: usize) -> u8;
-        pub fn t1mmu_run(state: *mut u64, words: usize, input: *const u8, length: usize, output: *mut u8, room: usize) -> Run;
-        pub fn t1mmu_unpack(word: u64) -> Tte;
-        pub fn t1mmu_pack(fields: Tte) -> u64;
-    }
-}
-
 /// Why a run ended.
 #[derive(Clone, Copy, Debug, PartialEq, Eq)]
 pub enum Stop {
@@ -69,25 +45,25 @@ pub enum Stop {
 }
 
 impl Stop {
-    /// The document's number, 0 to 4.
+    /// The document's number.
     pub fn number(self) -> u8 {
         match self {
-            Stop::End => 0,
-            Stop::Unsound => 1,
-            Stop::Unknown => 2,
-            Stop::Incomplete => 3,
-            Stop::NoRoom => 4,
+            Stop::End => numbers::END,
+            Stop::Unsound => numbers::STOP_UNSOUND,
+            Stop::Unknown => numbers::STOP_UNKNOWN,
+            Stop::Incomplete => numbers::STOP_INCOMPLETE,
+            Stop::NoRoom => numbers::STOP_NO_ROOM,
         }
     }
 
     fn of(number: u8) -> Stop {
         match number {
-            0 => Stop::End,
-            1 => Stop::Unsound,
-            2 => Stop::Unknown,
-            3 => Stop::Incomplete,
-            4 => Stop::NoRoom,
-            _ => unreachable!("the library proves its stop to be 0 to 4"),
+            numbers::END => Stop::End,
+            numbers::STOP_UNSOUND => Stop::Unsound,
+            numbers::STOP_UNKNOWN => Stop::Unknown,
+            numbers::STOP_INCOMPLETE => Stop::Incomplete,
+            numbers::STOP_NO_ROOM => Stop::NoRoom,
+            _ => unreachable!("the library proves its stop to be one of these"),
         }
     }
 }
@@ -132,10 +108,10 @@ impl Unit {
     /// Soundness is asked once a run, at the cost of some two dozen hits: give a run many commands where you can.
     pub fn run(&mut self, input: &[u8], output: &mut [u8]) -> Report {
         // SAFETY: three slices, so readable, the mutable ones ours alone, and none overlaps another.
-        let run = unsafe {
+        let report = unsafe {
             sys::t1mmu_run(self.words.as_mut_ptr(), self.words.len(), input.as_ptr(), input.len(), output.as_mut_ptr(), output.len())
         };
-        Report { answered: run.answered, taken: run.taken, stop: Stop::of(run.stop) }
+        Report { answered: report.answered, taken: report.taken, stop: Stop::of(report.stop) }
     }
 }
 

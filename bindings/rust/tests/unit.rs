@@ -1,4 +1,5 @@
 //! The crate's own tests. What is expected is document 01's, not the library's.
+use t1mmu::numbers::{self, cell_at, slot_at, tsb_base_of, tsb_configuration_of};
 use t1mmu::{pack, state_words, unpack, version, Report, Stop, Tte, Unit, ANSWER_BYTES, STATE_WORDS, VERSION};
 
 /// Document 01's printed run.
@@ -11,7 +12,11 @@ const ANSWERS: [&str; 5] = [
     "000000000000000000000000000000000000000000000000",
     "010100000000000000000000000800080000000000000000",
 ];
+const ROOM: usize = ANSWERS.len() * ANSWER_BYTES;
+/// Where its commands begin and end.
 const ENDS: [usize; 6] = [0, 11, 22, 35, 47, 60];
+/// The word that it inserts.
+const WORD: u64 = 0x8000_0000_0008_0440;
 
 fn bytes(hex: &str) -> Vec<u8> {
     (0..hex.len() / 2).map(|i| u8::from_str_radix(&hex[2 * i..2 * i + 2], 16).expect("hexadecimal")).collect()
@@ -29,30 +34,46 @@ fn linked_library_is_the_one_written_for() {
 
 #[test]
 fn reset_is_mode_2_and_else_zero() {
-    let unit = Unit::reset();
-    for (i, word) in unit.words().iter().enumerate() {
-        assert_eq!(*word, if i < 128 && i % 32 == 3 { 2 } else { 0 }, "word {i}");
-    }
+    let mut expected = [0; STATE_WORDS];
+    (0..numbers::STRANDS).for_each(|strand| expected[cell_at(strand, numbers::MODE)] = 2);
+    assert_eq!(Unit::reset().words(), &expected);
+}
+
+#[test]
+fn words_stand_where_the_layout_says() {
+    assert_eq!(slot_at(numbers::SIDES, 0), STATE_WORDS);
+    let mut unit = Unit::reset();
+    unit.run(&bytes(PRINTED), &mut [0; ROOM]);
+    assert_eq!(unit.words()[cell_at(0, numbers::TRANSLATION)], 3);
+    assert_eq!(unit.words()[slot_at(1, 0)..slot_at(1, 1)], [0, 0x40_2000, WORD, 2]);
+}
+
+#[test]
+fn tsb_registers() {
+    let bases = (0..2).flat_map(|side| [false, true].map(|nonzero| [0, 1].map(|ps| tsb_base_of(side, nonzero, ps))));
+    assert_eq!(bases.flatten().collect::<Vec<u8>>(), (8..16).collect::<Vec<u8>>());
+    let configurations = (0..2).flat_map(|side| [false, true].map(|nonzero| tsb_configuration_of(side, nonzero)));
+    assert_eq!(configurations.collect::<Vec<u8>>(), (16..20).collect::<Vec<u8>>());
 }
 
 #[test]
 fn printed_run() {
-    let mut output = [0xee; 6 * ANSWER_BYTES];
+    let mut output = [0xee; ROOM + ANSWER_BYTES];
     assert_eq!(Unit::reset().run(&bytes(PRINTED), &mut output), report(5, 60, Stop::End));
-    assert_eq!(output[..120], bytes(&ANSWERS.concat()));
-    assert_eq!(output[120..], [0xee; 24]);
+    assert_eq!(output[..ROOM], bytes(&ANSWERS.concat()));
+    assert_eq!(output[ROOM..], [0xee; ANSWER_BYTES]);
 }
 
 #[test]
 fn printed_run_in_parts_is_the_run() {
     let input = bytes(PRINTED);
     let mut whole = Unit::reset();
-    whole.run(&input, &mut [0; 120]);
+    whole.run(&input, &mut [0; ROOM]);
     for cut in ENDS {
         let mut unit = Unit::reset();
-        unit.run(&input[..cut], &mut [0; 120]);
+        unit.run(&input[..cut], &mut [0; ROOM]);
         let mut unit = Unit::from_words(*unit.words());
-        unit.run(&input[cut..], &mut [0; 120]);
+        unit.run(&input[cut..], &mut [0; ROOM]);
         assert!(unit == whole, "cut at {cut}");
     }
 }
@@ -60,7 +81,7 @@ fn printed_run_in_parts_is_the_run() {
 #[test]
 fn every_room() {
     let input = bytes(PRINTED);
-    for room in 0..=130 {
+    for room in 0..=ROOM + 10 {
         let n = (room / ANSWER_BYTES).min(5);
         let mut output = vec![0xee; room];
         let stop = if n < 5 { Stop::NoRoom } else { Stop::End };
@@ -72,7 +93,7 @@ fn every_room() {
 #[test]
 fn every_stop() {
     let mut unit = Unit::reset();
-    let mut output = [0; 48];
+    let mut output = [0; 2 * ANSWER_BYTES];
     assert_eq!(unit.run(&[], &mut []), report(0, 0, Stop::End));
     assert_eq!(unit.run(&[6, 1, 0], &mut output), report(1, 2, Stop::Unknown));
     assert_eq!(unit.run(&[6, 1, 6], &mut output), report(1, 2, Stop::Incomplete));
@@ -89,7 +110,7 @@ fn every_stop() {
 fn a_clone_is_another_core() {
     let unit = Unit::reset();
     let mut other = unit.clone();
-    other.run(&bytes(PRINTED), &mut [0; 120]);
+    other.run(&bytes(PRINTED), &mut [0; ROOM]);
     assert!(unit == Unit::reset());
     assert!(other != unit);
 }
@@ -97,8 +118,8 @@ fn a_clone_is_another_core() {
 #[test]
 fn entry_words() {
     let fields = Tte { v: 1, address: 0x80000 >> 13, cp: 1, w: 1, ..Tte::default() };
-    assert_eq!(pack(fields), 0x8000_0000_0008_0440);
-    assert_eq!(unpack(0x8000_0000_0008_0440), fields);
+    assert_eq!(pack(fields), WORD);
+    assert_eq!(unpack(WORD), fields);
     assert_eq!(pack(Tte { soft: 7, ..Tte::default() }), 3 << 4, "a field that is too wide");
     for bit in 0..64 {
         assert_eq!(pack(unpack(1 << bit)), 1 << bit, "bit {bit}");

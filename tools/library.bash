@@ -1,0 +1,79 @@
+# Sourced at the repository's top by all that links the library: it is built here and nowhere else.
+
+# need TOOL ..: ends with what is missing, and where it comes from.
+need() {
+    local tool missing=0
+    for tool; do
+        if command -v "$tool" >/dev/null; then continue; fi
+        missing=1
+        case $tool in
+        rt) echo "missing: rt, the Rattle toolchain's command; put the toolchain's bin folder into PATH" ;;
+        cargo) echo "missing: cargo, which comes with Rust (https://rustup.rs, or Debian's package cargo)" ;;
+        *) echo "missing: $tool (Debian's package $tool)" ;;
+        esac >&2
+    done
+    [ "$missing" = 0 ] || exit 1
+}
+
+# The crates that the named ones rest on, by crates.txt, and they themselves.
+crates_of() {
+    awk -F: -v names="$*" '
+        function visit(name, of, i, n) {
+            if (!(name in deps) || name in seen) return
+            seen[name]
+            n = split(deps[name], of, " ")
+            for (i = 1; i <= n; i++) visit(of[i])
+            print name
+        }
+        { sub(/#.*/, "") }
+        NF { deps[$1] = $2 }
+        END { n = split(names, of, " "); for (i = 1; i <= n; i++) visit(of[i]) }' crates.txt
+}
+
+# While rt writes, on standard input, says which crate's proof has begun and how many there are.
+# rt opens target/log/NAME.out as it comes to a crate, and has a stamp for one that is proved already.
+tell_progress() { # MARK NAME ..
+    local mark=$1 line got crate begun=' ' n=0
+    shift
+    while :; do
+        got=0
+        IFS= read -r -t 0.3 line || got=$?
+        # above 128 nothing came for a while; else it is the end
+        if [ "$got" -gt 0 ] && [ "$got" -le 128 ]; then return; fi
+        for crate; do
+            if [[ $begun = *" $crate "* ]] || [ ! "target/log/$crate.out" -nt "$mark" ]; then continue; fi
+            begun+="$crate " n=$((n + 1))
+            if [ ! -e "target/stamp/$crate" ]; then echo "proving $crate ($n of $#) .." >&2; fi
+        done
+    done
+}
+
+# prove NAME ..: rt check, which is silent for minutes, with a line for each crate that is not proved yet.
+prove() {
+    local log=target/library/check.log
+    need rt
+    mkdir -p target/library
+    : >"$log.begun"
+    # shellcheck disable=SC2046
+    rt check "$@" 2>&1 | tee "$log" | tell_progress "$log.begun" $(crates_of "$@") || { tail -n 20 "$log" >&2; exit 1; }
+}
+
+# need_library [PROGRAM ..]: the folder in T1MMU_LIB has a libt1mmu.a that is built; where it is not set, one is proved and built.
+# Leaves T1MMU_LIB set, for cargo's build scripts too, and the archive in `library`. The programs are proved and built as well.
+need_library() {
+    if [ -n "${T1MMU_LIB:-}" ]; then
+        T1MMU_LIB=$(realpath "$T1MMU_LIB")
+        [ $# = 0 ] || prove "$@"
+    else
+        local log=target/library/staticlib.log
+        T1MMU_LIB=$PWD/target/staticlib
+        prove t1mmu "$@"
+        if [ ! "$T1MMU_LIB/libt1mmu.a" -nt target/stamp/t1mmu ]; then
+            echo "building libt1mmu.a .." >&2
+            rt staticlib t1mmu >"$log" 2>&1 || { tail -n 20 "$log" >&2; exit 1; }
+        fi
+    fi
+    library=$T1MMU_LIB/libt1mmu.a
+    [ -f "$library" ] || { echo "missing: $library; T1MMU_LIB names the folder that it is in" >&2; exit 1; }
+    export T1MMU_LIB
+}
