@@ -3,12 +3,11 @@
 # A longer soak: target/tests/model/release/model --streams 1000000 --seed 7
 set -euo pipefail
 cd "$(dirname "$0")/.."
-mkdir -p target/tests
-if [ -z "${T1MMU_LIB:-}" ]; then
-    rt staticlib t1mmu >target/tests/staticlib.log 2>&1 || { cat target/tests/staticlib.log; exit 1; }
-fi
+source tools/library.bash
+need cargo
+need_library mmu_stream
 export CARGO_TARGET_DIR=$PWD/target/tests/model
-cargo build --release --offline --quiet --manifest-path tests/model/Cargo.toml
+cargo build --release --offline --locked --quiet --manifest-path tests/model/Cargo.toml
 model=$CARGO_TARGET_DIR/release/model
 "$model" --streams 20000 --sweeps --quiet --vectors tests/vectors.txt --printed crates/mmu_stream/stdin crates/mmu_stream/stdout --program target/bin/mmu_stream
 caught=0

@@ -21,7 +21,7 @@ pub enum Broken {
     UnroundedAddress,
     /// demap all reaches other partitions
     DemapAllPartitions,
-    /// number 13 though an overlapped entry would make way
+    /// number 13 where an overlapped entry frees a slot
     RefuseDespiteOverlap,
     /// the mask holds in mode 2 too
     MaskInMode2,

@@ -1,4 +1,7 @@
 //! The command stream: codes, widths, operands ("The stream").
+use t1mmu::numbers::{ACCESS, DEMAP_ALL, DEMAP_CONTEXT, DEMAP_PAGE, INSERT, INVALIDATE, POINTERS, READ, WRITE};
+use t1mmu::numbers::{ACCESS_BYTES, DEMAP_ALL_BYTES, DEMAP_CONTEXT_BYTES, DEMAP_PAGE_BYTES, INSERT_BYTES};
+use t1mmu::numbers::{INVALIDATE_BYTES, POINTERS_BYTES, READ_BYTES, WRITE_BYTES};
 
 #[derive(Clone, Copy, Debug, PartialEq)]
 pub enum Command {
@@ -16,15 +19,15 @@ pub enum Command {
 /// Code and operands together, in bytes; none for an unknown code.
 pub fn width(code: u8) -> Option<usize> {
     match code {
-        0x01 => Some(11),
-        0x02 => Some(12),
-        0x03 => Some(13),
-        0x04 => Some(4),
-        0x05 => Some(3),
-        0x06 => Some(2),
-        0x07 => Some(13),
-        0x08 => Some(3),
-        0x09 => Some(3),
+        WRITE => Some(WRITE_BYTES),
+        INSERT => Some(INSERT_BYTES),
+        DEMAP_PAGE => Some(DEMAP_PAGE_BYTES),
+        DEMAP_CONTEXT => Some(DEMAP_CONTEXT_BYTES),
+        DEMAP_ALL => Some(DEMAP_ALL_BYTES),
+        INVALIDATE => Some(INVALIDATE_BYTES),
+        ACCESS => Some(ACCESS_BYTES),
+        READ => Some(READ_BYTES),
+        POINTERS => Some(POINTERS_BYTES),
         _ => None,
     }
 }
@@ -36,15 +39,15 @@ fn big_endian(bytes: &[u8]) -> u64 {
 /// The command at the front of `b`, which holds all its operands.
 pub fn decode(b: &[u8]) -> Command {
     match b[0] {
-        0x01 => Command::Write { strand: b[1], register: b[2], value: big_endian(&b[3..]) },
-        0x02 => Command::Insert { strand: b[1], side: b[2], flags: b[3], word: big_endian(&b[4..]) },
-        0x03 => Command::DemapPage { strand: b[1], side: b[2], selector: b[3], flags: b[4], address: big_endian(&b[5..]) },
-        0x04 => Command::DemapContext { strand: b[1], side: b[2], selector: b[3] },
-        0x05 => Command::DemapAll { strand: b[1], side: b[2] },
-        0x06 => Command::Invalidate { side: b[1] },
-        0x07 => Command::Access { strand: b[1], kind: b[2], selector: b[3], size: b[4], address: big_endian(&b[5..]) },
-        0x08 => Command::Read { strand: b[1], register: b[2] },
-        0x09 => Command::Pointers { strand: b[1], side: b[2] },
+        WRITE => Command::Write { strand: b[1], register: b[2], value: big_endian(&b[3..]) },
+        INSERT => Command::Insert { strand: b[1], side: b[2], flags: b[3], word: big_endian(&b[4..]) },
+        DEMAP_PAGE => Command::DemapPage { strand: b[1], side: b[2], selector: b[3], flags: b[4], address: big_endian(&b[5..]) },
+        DEMAP_CONTEXT => Command::DemapContext { strand: b[1], side: b[2], selector: b[3] },
+        DEMAP_ALL => Command::DemapAll { strand: b[1], side: b[2] },
+        INVALIDATE => Command::Invalidate { side: b[1] },
+        ACCESS => Command::Access { strand: b[1], kind: b[2], selector: b[3], size: b[4], address: big_endian(&b[5..]) },
+        READ => Command::Read { strand: b[1], register: b[2] },
+        POINTERS => Command::Pointers { strand: b[1], side: b[2] },
         code => panic!("{code:#04x} is no command"),
     }
 }
@@ -52,15 +55,15 @@ pub fn decode(b: &[u8]) -> Command {
 pub fn encode(command: Command) -> Vec<u8> {
     let with = |head: &[u8], value: u64| [head, &value.to_be_bytes()[..]].concat();
     match command {
-        Command::Write { strand, register, value } => with(&[1, strand, register], value),
-        Command::Insert { strand, side, flags, word } => with(&[2, strand, side, flags], word),
-        Command::DemapPage { strand, side, selector, flags, address } => with(&[3, strand, side, selector, flags], address),
-        Command::DemapContext { strand, side, selector } => vec![4, strand, side, selector],
-        Command::DemapAll { strand, side } => vec![5, strand, side],
-        Command::Invalidate { side } => vec![6, side],
-        Command::Access { strand, kind, selector, size, address } => with(&[7, strand, kind, selector, size], address),
-        Command::Read { strand, register } => vec![8, strand, register],
-        Command::Pointers { strand, side } => vec![9, strand, side],
+        Command::Write { strand, register, value } => with(&[WRITE, strand, register], value),
+        Command::Insert { strand, side, flags, word } => with(&[INSERT, strand, side, flags], word),
+        Command::DemapPage { strand, side, selector, flags, address } => with(&[DEMAP_PAGE, strand, side, selector, flags], address),
+        Command::DemapContext { strand, side, selector } => vec![DEMAP_CONTEXT, strand, side, selector],
+        Command::DemapAll { strand, side } => vec![DEMAP_ALL, strand, side],
+        Command::Invalidate { side } => vec![INVALIDATE, side],
+        Command::Access { strand, kind, selector, size, address } => with(&[ACCESS, strand, kind, selector, size], address),
+        Command::Read { strand, register } => vec![READ, strand, register],
+        Command::Pointers { strand, side } => vec![POINTERS, strand, side],
     }
 }
 

@@ -4,9 +4,11 @@ use crate::coverage::Coverage;
 use crate::generate::{Run, Scene};
 use crate::ledger::Ledger;
 use crate::library;
-use crate::model::{self, Model};
+use crate::model::{self, Model, Report};
 use crate::random::Random;
 use crate::states::{self, Start};
+use t1mmu::numbers::{cell_at, slot_at, ANSWER_BYTES, CELLS, SIDES, SLOTS, SLOT_WORDS, STATE_WORDS, STRANDS};
+use t1mmu::{pack, unpack, Tte};
 
 const GUARD: usize = 64;
 
@@ -86,14 +88,17 @@ fn first_difference<T: PartialEq + std::fmt::LowerHex>(what: &str, model: &[T], 
 
 /// Where a state word stands, in words.
 fn place(at: isize) -> String {
-    match at {
-        0..=127 => format!("strand {} register {}", at / 32, at % 32),
-        128..=639 => format!("side {} slot {} {}", (at - 128) / 256, (at - 128) % 256 / 4, ["owner", "page", "word", "flags"][at as usize % 4]),
-        _ => "outside the state".to_string(),
-    }
+    let cells = (0..STRANDS).flat_map(|strand| (0..CELLS as u8).map(move |n| (cell_at(strand, n), format!("strand {strand} register {n}"))));
+    let slots = (0..SIDES).flat_map(|side| (0..SLOTS).map(move |slot| (side, slot)));
+    let words = slots.flat_map(|(side, slot)| {
+        let names: [&str; SLOT_WORDS] = ["owner", "page", "word", "flags"];
+        names.into_iter().enumerate().map(move |(i, name)| (slot_at(side, slot) + i, format!("side {side} slot {slot} {name}")))
+    });
+    let found = cells.chain(words).find(|(i, _)| *i as isize == at);
+    found.map_or("outside the state".to_string(), |(_, name)| name)
 }
 
-fn compare_run(words: &mut Vec<u64>, run: &Run, r: &mut Random, coverage: &mut Coverage) -> Result<(model::Report, Vec<u8>), String> {
+fn compare_run(words: &mut Vec<u64>, run: &Run, r: &mut Random, coverage: &mut Coverage) -> Result<(Report, Vec<u8>), String> {
     let mut ours = Guarded::new(words.len(), || r.next());
     ours.inner().copy_from_slice(words);
     let mut theirs = Guarded { cells: ours.cells.clone(), length: ours.length };
@@ -106,7 +111,7 @@ fn compare_run(words: &mut Vec<u64>, run: &Run, r: &mut Random, coverage: &mut C
         return Err(format!("report: model {report:?}, library {got:?}"));
     }
     first_difference("output byte", &out_ours.cells, &out_theirs.cells)
-        .map_err(|e| format!("{e} (answers have 24 bytes each)"))?;
+        .map_err(|e| format!("{e} (answers have {ANSWER_BYTES} bytes each)"))?;
     if let Some(i) = ours.cells.iter().zip(&theirs.cells).position(|(m, l)| m != l) {
         let at = i as isize - GUARD as isize;
         return Err(format!("state word {at} ({}): model {:#x}, library {:#x}", place(at), ours.cells[i], theirs.cells[i]));
@@ -117,13 +122,13 @@ fn compare_run(words: &mut Vec<u64>, run: &Run, r: &mut Random, coverage: &mut C
     words.copy_from_slice(theirs.inner());
     coverage.stop(report.stop);
     coverage.events(&events);
-    Ok((report, out_theirs.inner()[..24 * report.answered].to_vec()))
+    Ok((report, out_theirs.inner()[..ANSWER_BYTES * report.answered].to_vec()))
 }
 
 /// The ledger's answers to the commands that a run took, against the library's bytes.
 fn compare_ledger(ledger: &mut Ledger, run: &Run, answers: &[u8], counts: &mut Counts) -> Result<(), String> {
     let mut at = 0;
-    for (i, answer) in answers.chunks(24).enumerate() {
+    for (i, answer) in answers.chunks(ANSWER_BYTES).enumerate() {
         let given = ledger.answer(decode(&run.input[at..]), answer);
         if given.as_ref().map(|b| &b[..]) != Some(answer) {
             return Err(format!("answer {i} (input byte {at}): ledger {given:02x?}, library {answer:02x?}"));
@@ -138,10 +143,10 @@ fn compare_reset(length: usize, r: &mut Random) -> Result<(), String> {
     let mut theirs = Guarded::new(length, || r.next());
     let mut expected = theirs.cells.clone();
     let number = library::reset(theirs.inner());
-    if length == model::WORDS {
+    if length == STATE_WORDS {
         expected[GUARD..GUARD + length].copy_from_slice(&Model::reset().to_words());
     }
-    if number != (length != model::WORDS) as u8 {
+    if number != (length != STATE_WORDS) as u8 {
         return Err(format!("reset of {length} words gave {number}"));
     }
     first_difference("reset word", &expected, &theirs.cells)
@@ -161,7 +166,7 @@ pub fn compare(stream: &Stream, coverage: &mut Coverage, counts: &mut Counts) ->
         counts.states += 1;
         counts.commands += report.answered as u64;
         let mut at = 0;
-        for answer in answers.chunks(24) {
+        for answer in answers.chunks(ANSWER_BYTES) {
             coverage.answer(run.input[at], answer);
             at += width(run.input[at]).expect("taken, so known");
         }
@@ -172,29 +177,32 @@ pub fn compare(stream: &Stream, coverage: &mut Coverage, counts: &mut Counts) ->
     Ok(())
 }
 
-/// "v 63, nfo 62, soft2 61:56, address 55:13, ie 12, e 11, cp 10, cv 9, p 8, ep 7, w 6, soft 5:4, size 3:0": high bit and low bit.
+/// High and low bit of each field of an entry word, in the order of `Tte`.
 const FIELDS: [(u32, u32); 13] =
     [(63, 63), (62, 62), (61, 56), (55, 13), (12, 12), (11, 11), (10, 10), (9, 9), (8, 8), (7, 7), (6, 6), (5, 4), (3, 0)];
+
+fn from_fields([v, nfo, soft2, address, ie, e, cp, cv, p, ep, w, soft, size]: [u64; 13]) -> Tte {
+    Tte { v, nfo, soft2, address, ie, e, cp, cv, p, ep, w, soft, size }
+}
 
 /// Entry words taken apart and put together; `n` random ones and each single bit.
 pub fn compare_words(n: u64, seed: u64) -> Result<u64, String> {
     let mut r = Random::new(seed);
     let random: Vec<u64> = (0..n).map(|_| r.next()).collect();
     for word in random.into_iter().chain((0..64).map(|b| 1 << b)).chain([0, u64::MAX]) {
-        let mut fields = [0; 13];
-        for (field, (high, low)) in fields.iter_mut().zip(FIELDS) {
-            *field = word >> low & (u64::MAX >> (63 - (high - low)));
-        }
-        let got = library::unpack(word);
-        if got != library::Fields(fields) {
-            return Err(format!("unpack {word:#x}: expected {fields:x?}, library {got:x?}"));
+        let expected = FIELDS.map(|(high, low)| word >> low & (u64::MAX >> (63 - (high - low))));
+        let got = unpack(word);
+        if got != from_fields(expected) {
+            return Err(format!("unpack {word:#x}: expected {:x?}, library {got:x?}", from_fields(expected)));
         }
         // Bits past a field's width are not taken.
+        let mut fields = expected;
         for (field, (high, low)) in fields.iter_mut().zip(FIELDS) {
             *field |= if r.percent(30) { (r.next() << (high - low)) << 1 } else { 0 };
         }
-        if library::pack(library::Fields(fields)) != word {
-            return Err(format!("pack {fields:x?}: expected {word:#x}, library {:#x}", library::pack(library::Fields(fields))));
+        let packed = pack(from_fields(fields));
+        if packed != word {
+            return Err(format!("pack {fields:x?}: expected {word:#x}, library {packed:#x}"));
         }
     }
     Ok(n + 66)

@@ -1,6 +1,9 @@
 //! Random command streams, dense in hard cases.
 use crate::command::{encode, Command};
 use crate::random::Random;
+use t1mmu::numbers::{ADDRESS_MASK, MODE, PARTITION, PRIMARY_CONTEXT, SECONDARY_CONTEXT, TRANSLATION};
+use t1mmu::numbers::{ANSWER_BYTES, REGISTERS, SIDES, STRANDS};
+use t1mmu::numbers::{FAULT_ADDRESS, LOCKED, TAG_ACCESS, TSB_BASE, TSB_CONFIGURATION};
 
 /// One run of a stream: its bytes and its room for answers.
 pub struct Run {
@@ -111,13 +114,13 @@ impl Scene {
     }
 
     fn strand(&self, r: &mut Random) -> u8 {
-        self.operand(r, 4)
+        self.operand(r, STRANDS as u8)
     }
 
     fn a_side(&self, r: &mut Random) -> u8 {
         match self.side {
             Some(side) if r.percent(90) => side,
-            _ => self.operand(r, 2),
+            _ => self.operand(r, SIDES as u8),
         }
     }
 
@@ -161,14 +164,14 @@ impl Scene {
             };
         }
         match register {
-            0 => r.pick(&self.partitions),
-            1 | 2 => r.pick(&self.contexts),
-            3 => r.pick(&[0, 0, 0, 0, 0, 1, 1, 1, 1, 1, 2]),
-            4 => r.pick(&[0, 1, 2, 3, 3, 3, 3, 3]),
-            5 => r.pick(&[0, 0, 0, 1]),
-            8..=15 => r.next() & !0x1FF0 & r.pick(&[u64::MAX, !15, 0xFFFF_FFFF]),
-            16..=19 => r.pick(&CODES) + 256 * r.pick(&CODES),
-            20 | 21 => self.tag(r),
+            PARTITION => r.pick(&self.partitions),
+            PRIMARY_CONTEXT | SECONDARY_CONTEXT => r.pick(&self.contexts),
+            MODE => r.pick(&[0, 0, 0, 0, 0, 1, 1, 1, 1, 1, 2]),
+            TRANSLATION => r.pick(&[0, 1, 2, 3, 3, 3, 3, 3]),
+            ADDRESS_MASK => r.pick(&[0, 0, 0, 1]),
+            TSB_BASE..TSB_CONFIGURATION => r.next() & !0x1FF0 & r.pick(&[u64::MAX, !15, 0xFFFF_FFFF]),
+            TSB_CONFIGURATION..TAG_ACCESS => r.pick(&CODES) + 256 * r.pick(&CODES),
+            TAG_ACCESS..FAULT_ADDRESS => self.tag(r),
             _ => r.next(),
         }
     }
@@ -180,11 +183,12 @@ impl Scene {
 
     fn register(&self, r: &mut Random) -> u8 {
         match r.below(10) {
-            0..=2 => r.pick(&[0, 1, 2, 3, 4, 5]),
-            3..=5 => 20 + r.below(2) as u8,
-            6..=8 => r.pick(&[8, 9, 10, 11, 12, 13, 14, 15, 16, 17, 18, 19]),
+            0..=2 => PARTITION + r.below(6) as u8,
+            3..=5 => TAG_ACCESS + r.below(2) as u8,
+            6..=8 => TSB_BASE + r.below(12) as u8,
+            // between the registers, read only, and past them
             _ if self.bad(r) || r.percent(20) => r.pick(&[6, 7, 22, 23, 24, 25, 26, 31, 32, 255]),
-            _ => 20 + r.below(2) as u8,
+            _ => TAG_ACCESS + r.below(2) as u8,
         }
     }
 
@@ -195,8 +199,8 @@ impl Scene {
     /// Registers so that most accesses look up.
     pub fn setup(&self, r: &mut Random) -> Vec<Command> {
         let mut all = Vec::new();
-        for strand in 0..4 {
-            for register in 0..6 {
+        for strand in 0..STRANDS as u8 {
+            for register in PARTITION..=ADDRESS_MASK {
                 if r.percent(97) {
                     all.push(Command::Write { strand, register, value: self.value(r, register) });
                 }
@@ -209,9 +213,9 @@ impl Scene {
     fn insertion(&self, r: &mut Random, all: &mut Vec<Command>) {
         let (strand, side) = (self.strand(r), self.a_side(r));
         if r.percent(92) {
-            all.push(Command::Write { strand, register: 20 + side % 2, value: self.tag(r) });
+            all.push(Command::Write { strand, register: TAG_ACCESS + side % 2, value: self.tag(r) });
         }
-        let locked = 2 * r.percent(self.lock_percent) as u8;
+        let locked = LOCKED * r.percent(self.lock_percent) as u8;
         let real = r.percent(20) as u8;
         let flags = if self.bad(r) { r.next() as u8 } else { real + locked };
         all.push(Command::Insert { strand, side, flags, word: self.word(r) });
@@ -272,8 +276,8 @@ impl Scene {
             let register = self.register(r);
             all.push(match r.below(4) {
                 0 | 1 => self.write(r, register),
-                2 => Command::Read { strand: self.strand(r), register: if r.percent(95) { r.below(26) as u8 } else { r.next() as u8 } },
-                _ => Command::Pointers { strand: self.strand(r), side: self.operand(r, 2) },
+                2 => Command::Read { strand: self.strand(r), register: if r.percent(95) { r.below(REGISTERS as u64) as u8 } else { r.next() as u8 } },
+                _ => Command::Pointers { strand: self.strand(r), side: self.operand(r, SIDES as u8) },
             });
         }
     }
@@ -291,7 +295,7 @@ impl Scene {
         let mut commands = if first && r.percent(95) { self.setup(r) } else { Vec::new() };
         commands.extend(self.commands(r, n));
         let mut input: Vec<u8> = commands.iter().flat_map(|&c| encode(c)).collect();
-        let mut room = 24 * commands.len() + r.below(60) as usize;
+        let mut room = ANSWER_BYTES * commands.len() + r.below(60) as usize;
         match r.below(20) {
             0 | 1 => input.truncate(r.below(input.len() as u64 + 1) as usize),
             2 => input.extend([r.pick(&[0, 0x0A, 0x0B, 0x10, 0x80, 0xFF]), 0, 0]),

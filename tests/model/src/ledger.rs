@@ -1,8 +1,10 @@
-//! The plain machine of demand 3: registers and, for each side, a list of entries, oldest first. It has no slots and
-//! no used bits, and it is written again from "The ledger", sharing nothing with the model but the decoded command.
+//! The plain machine of demand 3: registers, and two lists of entries by age. It has no slots and no used bits, and it is
+//! written again from "The ledger", sharing nothing with the model but the decoded command and the counts of the machine.
 use crate::command::Command;
+use t1mmu::numbers::{ANSWER_BYTES, REGISTERS, SIDES, SLOTS, STRANDS};
 
-const FULL: usize = 64;
+/// An answer as it is written.
+type Bytes = [u8; ANSWER_BYTES];
 
 #[derive(Clone, Copy, Debug, PartialEq)]
 struct Item {
@@ -15,8 +17,8 @@ struct Item {
 }
 
 pub struct Ledger {
-    registers: [[u64; 26]; 4],
-    lists: [Vec<Item>; 2],
+    registers: [[u64; REGISTERS]; STRANDS],
+    lists: [Vec<Item>; SIDES],
 }
 
 /// The entry that an answer of kind 4 names.
@@ -44,8 +46,8 @@ fn named_by(answer: &[u8]) -> Option<Named> {
     })
 }
 
-fn bytes(head: [u8; 4], first: u64, second: u64) -> [u8; 24] {
-    let mut all = [0; 24];
+fn bytes(head: [u8; 4], first: u64, second: u64) -> Bytes {
+    let mut all = [0; ANSWER_BYTES];
     for (i, b) in head.iter().chain(&[0; 4]).chain(&first.to_be_bytes()).chain(&second.to_be_bytes()).enumerate() {
         all[i] = *b;
     }
@@ -89,13 +91,13 @@ fn may_hold(register: u8, v: u64) -> bool {
 
 impl Ledger {
     pub fn reset() -> Ledger {
-        let mut registers = [[0; 26]; 4];
+        let mut registers = [[0; REGISTERS]; STRANDS];
         registers.iter_mut().for_each(|r| r[3] = 2);
         Ledger { registers, lists: [Vec::new(), Vec::new()] }
     }
 
     /// The answer of the ledger, fed what the unit's answer names as displaced; none where the name is not that of a live unlocked entry.
-    pub fn answer(&mut self, command: Command, of_the_unit: &[u8]) -> Option<[u8; 24]> {
+    pub fn answer(&mut self, command: Command, of_the_unit: &[u8]) -> Option<Bytes> {
         match self.refused(command) {
             Some(number) => Some(bytes([5, number, 0, 0], 0, 0)),
             None => self.accepted(command, named_by(of_the_unit)),
@@ -118,7 +120,7 @@ impl Ledger {
         Item { partition: r[0], real, context: if real { 0 } else { tag % 8192 }, page: tag >> by << by, lock: flags / 2 == 1, word }
     }
 
-    /// "It puts questions 5 to 13 below to its own registers and lists".
+    /// The questions that an answer refuses by, asked of the ledger's own registers and lists.
     fn refused(&self, command: Command) -> Option<u8> {
         let (strand, side) = match command {
             Command::Write { strand, .. } | Command::Read { strand, .. } => (strand, 0),
@@ -157,14 +159,14 @@ impl Ledger {
             Command::Insert { flags, word, .. } => {
                 let list = &self.lists[side as usize];
                 let new = self.item(strand, side, flags, word);
-                let no_way = list.len() == FULL && list.iter().all(|e| e.lock) && !list.iter().any(|e| overlap(e, &new));
+                let no_way = list.len() == SLOTS && list.iter().all(|e| e.lock) && !list.iter().any(|e| overlap(e, &new));
                 no_way.then_some(13)
             }
             _ => None,
         }
     }
 
-    fn accepted(&mut self, command: Command, named: Option<Named>) -> Option<[u8; 24]> {
+    fn accepted(&mut self, command: Command, named: Option<Named>) -> Option<Bytes> {
         let done = bytes([0; 4], 0, 0);
         Some(match command {
             Command::Write { strand, register, value } => {
@@ -197,20 +199,20 @@ impl Ledger {
         })
     }
 
-    fn strike(&mut self, side: u8, struck: impl Fn(&Item) -> bool) -> [u8; 24] {
+    fn strike(&mut self, side: u8, struck: impl Fn(&Item) -> bool) -> Bytes {
         let list = &mut self.lists[side as usize];
         let before = list.len();
         list.retain(|e| !struck(e));
         bytes([0; 4], (before - list.len()) as u64, 0)
     }
 
-    /// "Insertion strikes those it overlaps; where 64 were live, none overlapped and one at least was unlocked, it strikes the one named".
-    fn appended(&mut self, side: usize, new: Item, named: Option<Named>) -> Option<[u8; 24]> {
+    /// Overlapped entries go. A full list without any loses the entry that the unit named, which has to be there and unlocked.
+    fn appended(&mut self, side: usize, new: Item, named: Option<Named>) -> Option<Bytes> {
         let list = &mut self.lists[side];
         let mut answer = bytes([0; 4], 0, 0);
         let before = list.len();
         list.retain(|e| !overlap(e, &new));
-        if before == FULL && list.len() == FULL {
+        if before == SLOTS && list.len() == SLOTS {
             let n = named?;
             let is_named = |e: &Item| {
                 (e.partition, e.real, e.context, e.page, e.word) == (n.partition, n.real, n.context, n.page, n.word) && !e.lock
@@ -222,7 +224,7 @@ impl Ledger {
         Some(answer)
     }
 
-    fn access(&mut self, strand: u8, kind: u8, selector: u8, size: u8, address: u64) -> [u8; 24] {
+    fn access(&mut self, strand: u8, kind: u8, selector: u8, size: u8, address: u64) -> Bytes {
         let r = self.registers[strand as usize];
         let side = kind.min(1) as usize;
         let address = if r[5] == 1 && r[3] < 2 { address % (1 << 32) } else { address };
@@ -255,7 +257,7 @@ impl Ledger {
     }
 
     /// Steps 6 to 8 on the live entry that was found.
-    fn judged(&mut self, strand: u8, kind: u8, e: Item, address: u64, tag: u64) -> [u8; 24] {
+    fn judged(&mut self, strand: u8, kind: u8, e: Item, address: u64, tag: u64) -> Bytes {
         let side = kind.min(1) as usize;
         let is = |n: u32| e.word >> n & 1 == 1;
         let (user, atomic, store, nonfaulting) = (self.registers[strand as usize][3] == 0, kind == 3, kind == 2, kind == 4);
@@ -273,7 +275,7 @@ impl Ledger {
         bytes([1, attributes as u8, 0, 0], frame + (address - (address >> by << by)), 0)
     }
 
-    fn trap(&mut self, strand: u8, side: usize, number: u8, fault: u8, address: u64, tag: Option<u64>) -> [u8; 24] {
+    fn trap(&mut self, strand: u8, side: usize, number: u8, fault: u8, address: u64, tag: Option<u64>) -> Bytes {
         let r = &mut self.registers[strand as usize];
         if let Some(tag) = tag {
             r[20 + side] = tag;
@@ -283,7 +285,7 @@ impl Ledger {
         bytes([2, number, fault, 0], address, r[20 + side])
     }
 
-    fn pointers(&self, strand: usize, side: usize) -> [u8; 24] {
+    fn pointers(&self, strand: usize, side: usize) -> Bytes {
         let r = &self.registers[strand];
         let tag = r[20 + side];
         let zero = tag % 8192 == 0;

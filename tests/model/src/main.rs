@@ -2,17 +2,18 @@
 use model::compare::{compare, compare_words, shrink, stream, told, Counts, Stream};
 use model::coverage::Coverage;
 use model::vectors::{self, Vector};
-use model::{broken, library, model as unit, sweeps};
+use model::{broken, sweeps};
 use std::io::Write;
 use std::process::{exit, Command, Stdio};
+use t1mmu::{state_words, STATE_WORDS};
 
 const USAGE: &str = "model [--seed N] [--streams N] [--broken NAME] [--quiet] [--sweeps] [--vectors FILE] [--printed STDIN STDOUT] [--program PATH]
   --streams N     random streams (default 20000); each has one to four runs
   --seed N        the first stream's seed (default 1); stream i has seed N + i
   --broken NAME   breaks the model on purpose: the comparison has to fail
-  --vectors FILE  hand-checked runs through model, ledger and library
+  --vectors FILE  hand-checked runs through model, ledger and library, and through the program
   --printed A B   the stream program's input A and its output B, likewise
-  --program PATH  compares the stream program, too, on every 40th stream that starts from reset
+  --program PATH  the stream program; it takes the runs of every 40th stream, too, each from reset
   --sweeps        operands, registers, attributes, one-bit flips of a state, page sizes side by side: each case once
   --quiet         no coverage table";
 
@@ -71,6 +72,9 @@ fn fixed_runs(o: &Options) -> u64 {
     let text = |path: &String| std::fs::read(path).unwrap_or_else(|e| fail(&format!("{path}: {e}")));
     let utf8 = |path: &String| String::from_utf8(text(path)).unwrap_or_else(|e| fail(&e.to_string()));
     let mut all: Vec<Vector> = o.vectors.as_ref().map_or(Vec::new(), |path| vectors::read(&utf8(path)));
+    if o.vectors.is_some() && all.is_empty() {
+        fail("no vector was read");
+    }
     if let Some((input, output)) = &o.printed {
         all.push(Vector { name: "the printed run".to_string(), input: text(input), output: utf8(output) });
     }
@@ -79,18 +83,23 @@ fn fixed_runs(o: &Options) -> u64 {
         differ += differs(&v.name, "model", &v.output, &vectors::by_model(&v.input));
         differ += differs(&v.name, "ledger", &v.output, &vectors::by_ledger(v));
         differ += differs(&v.name, "library", &v.output, &vectors::by_library(&v.input));
+        differ += o.program.as_ref().map_or(0, |p| differs(&v.name, "stream program", &v.output, &printed_by(p, &v.input)));
     }
     if !all.is_empty() {
-        println!("model: {} fixed runs through model, ledger and library, {differ} differ", all.len());
+        let program = if o.program.is_some() { " and stream program" } else { "" };
+        println!("model: {} fixed runs through model, ledger, library{program}, {differ} differ", all.len());
     }
     differ
 }
 
+/// All that the stream program writes, and how it ended where that is not well.
 fn printed_by(program: &str, input: &[u8]) -> String {
     let mut child = Command::new(program).stdin(Stdio::piped()).stdout(Stdio::piped()).spawn().unwrap_or_else(|e| fail(&format!("{program}: {e}")));
     // A program that has read its 4,096 bytes may close the pipe.
     let _ = child.stdin.take().expect("a pipe").write_all(input);
-    String::from_utf8_lossy(&child.wait_with_output().expect("its output").stdout).into_owned()
+    let output = child.wait_with_output().expect("its output");
+    let ended = if output.status.success() { String::new() } else { format!("{}\n", output.status) };
+    String::from_utf8_lossy(&output.stdout).into_owned() + &ended
 }
 
 fn program_runs(o: &Options, program: &str) -> u64 {
@@ -129,7 +138,7 @@ fn compared(name: &str, streams: impl Iterator<Item = Stream>) -> (u64, Coverage
 
 fn main() {
     let o = options();
-    let mut differ = (library::state_words() != unit::WORDS) as u64;
+    let mut differ = differs("words of a state", "library", &format!("{STATE_WORDS}\n"), &format!("{}\n", state_words()));
     differ += fixed_runs(&o);
     match compare_words(100_000, o.seed) {
         Ok(n) => println!("model: {n} entry words unpacked and packed, 0 differ"),

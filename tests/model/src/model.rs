@@ -1,11 +1,9 @@
-//! The unit as document 01 has it: plain structs, one scan for each question. Sentences of the document are quoted where they decide.
+//! The unit as document 01 has it: plain structs, one scan for each question. Comments name the section that decides. Only the places of
+//! registers and slots in the lent words are the library's; what they mean is written here again.
 use crate::broken::{self, Broken};
 use crate::command::{decode, width, Command};
-
-pub const WORDS: usize = 640;
-pub const SLOTS: usize = 64;
-const CELLS: usize = 32;
-const REGISTERS: usize = 26;
+use t1mmu::numbers::{cell_at, slot_at, ANSWER_BYTES, CELLS, REGISTERS, SIDES, SLOTS, SLOT_WORDS, STATE_WORDS, STRANDS};
+pub use t1mmu::sys::Report;
 
 #[derive(Clone, Copy, Debug, PartialEq)]
 pub struct Entry {
@@ -21,8 +19,8 @@ pub struct Entry {
 #[derive(Clone, Debug, PartialEq)]
 pub struct Model {
     /// by strand and number; 6 and 7 are no registers and stay 0
-    pub registers: [[u64; REGISTERS]; 4],
-    pub sides: [[Option<Entry>; SLOTS]; 2],
+    pub registers: [[u64; REGISTERS]; STRANDS],
+    pub sides: [[Option<Entry>; SLOTS]; SIDES],
     /// what happened inside, for coverage
     pub events: Vec<Event>,
 }
@@ -55,13 +53,6 @@ pub const CHOICES: [Choice; 6] = [
 ];
 
 #[derive(Clone, Copy, Debug, PartialEq)]
-pub struct Report {
-    pub answered: usize,
-    pub taken: usize,
-    pub stop: u8,
-}
-
-#[derive(Clone, Copy, Debug, PartialEq)]
 pub enum Answer {
     Done { count: u64 },
     Physical { attributes: u8, address: u64 },
@@ -73,12 +64,12 @@ pub enum Answer {
 
 // ---- addresses and entry words
 
-/// "in range when below 2^47 or at least 2^64 − 2^47"
+/// 47 bits, sign-extended ("Addresses and entry words").
 pub fn in_range(address: u64) -> bool {
     address < 1 << 47 || address >= (1u64 << 47).wrapping_neg()
 }
 
-/// "0, 1, 3 or 5 for 2^13, 2^16, 2^22, 2^28 bytes"
+/// The page's bytes by its size code; none for a code that is not listed.
 pub fn page_size(code: u64) -> Option<u64> {
     match code {
         0 => Some(1 << 13),
@@ -93,7 +84,7 @@ fn bit(word: u64, n: u32) -> bool {
     word >> n & 1 == 1
 }
 
-/// Number 12: "Word with v 1, a listed size, bits 55:40 zero?"
+/// Number 12: live, of a listed size, and its address below 2^40.
 pub fn word_allowed(word: u64) -> bool {
     bit(word, 63) && page_size(word & 15).is_some() && word >> 40 & 0xFFFF == 0
 }
@@ -112,7 +103,7 @@ impl Entry {
         round_down(address, size_of(self.word)) == self.page
     }
 
-    /// "Two entries of a side overlap when partition, realness and context agree and one page holds the other's start."
+    /// Same owner, and one of the pages reaches into the other ("Insertion and removal").
     pub fn overlaps(&self, other: &Entry) -> bool {
         let agree = self.partition == other.partition && self.real == other.real && self.context == other.context;
         agree && (self.holds(other.page) || other.holds(self.page))
@@ -121,7 +112,7 @@ impl Entry {
 
 // ---- registers
 
-fn known(register: u8) -> bool {
+pub fn known(register: u8) -> bool {
     matches!(register, 0..=5 | 8..=25)
 }
 
@@ -161,9 +152,9 @@ fn entry_of(slot: &[u64]) -> Option<Entry> {
     sound.then_some(entry)
 }
 
-fn words_of(slot: &Option<Entry>) -> [u64; 4] {
+fn words_of(slot: &Option<Entry>) -> [u64; SLOT_WORDS] {
     match slot {
-        None => [0; 4],
+        None => [0; SLOT_WORDS],
         Some(e) => [e.partition << 14 | (e.real as u64) << 13 | e.context, e.page, e.word, e.locked as u64 | (e.used as u64) << 1],
     }
 }
@@ -171,10 +162,10 @@ fn words_of(slot: &Option<Entry>) -> [u64; 4] {
 /// One side; none when a slot is not sound or two live entries overlap.
 fn side_of(words: &[u64]) -> Option<[Option<Entry>; SLOTS]> {
     let mut side = [None; SLOTS];
-    for (i, slot) in words.chunks(4).enumerate() {
+    for (i, slot) in words.chunks(SLOT_WORDS).enumerate() {
         if bit(slot[2], 63) {
             side[i] = Some(entry_of(slot)?);
-        } else if slot != [0; 4] && !broken::is(Broken::DirtyEmptySlots) {
+        } else if slot != [0; SLOT_WORDS] && !broken::is(Broken::DirtyEmptySlots) {
             return None;
         }
     }
@@ -188,47 +179,48 @@ fn side_of(words: &[u64]) -> Option<[Option<Entry>; SLOTS]> {
 }
 
 impl Model {
-    /// "Reset: all zero, mode 2, buffers empty."
+    /// Mode 2 on every strand, and nothing else ("Registers").
     pub fn reset() -> Model {
-        let mut registers = [[0; REGISTERS]; 4];
+        let mut registers = [[0; REGISTERS]; STRANDS];
         for strand in &mut registers {
             strand[3] = 2;
         }
-        Model { registers, sides: [[None; SLOTS]; 2], events: Vec::new() }
+        Model { registers, sides: [[None; SLOTS]; SIDES], events: Vec::new() }
     }
 
     /// The state that the words hold; none where it is not sound (number 1).
     pub fn from_words(words: &[u64]) -> Option<Model> {
-        if words.len() != WORDS {
+        if words.len() != STATE_WORDS {
             return None;
         }
         let mut model = Model::reset();
-        for strand in 0..4 {
-            for number in 0..CELLS {
-                let value = words[strand * CELLS + number];
-                let sound = if known(number as u8) { value_allowed(number as u8, value) } else { value == 0 };
+        for (strand, registers) in model.registers.iter_mut().enumerate() {
+            for number in 0..CELLS as u8 {
+                let value = words[cell_at(strand, number)];
+                let sound = if known(number) { value_allowed(number, value) } else { value == 0 };
                 if !sound {
                     return None;
                 }
-                if number < REGISTERS {
-                    model.registers[strand][number] = value;
+                if let Some(register) = registers.get_mut(number as usize) {
+                    *register = value;
                 }
             }
         }
-        let slots = 4 * CELLS;
-        model.sides[0] = side_of(&words[slots..slots + 4 * SLOTS])?;
-        model.sides[1] = side_of(&words[slots + 4 * SLOTS..])?;
+        for (side, slots) in model.sides.iter_mut().enumerate() {
+            *slots = side_of(&words[slot_at(side, 0)..slot_at(side + 1, 0)])?;
+        }
         Some(model)
     }
 
     pub fn to_words(&self) -> Vec<u64> {
-        let mut words = Vec::with_capacity(WORDS);
-        for strand in &self.registers {
-            words.extend_from_slice(strand);
-            words.resize(words.len() + CELLS - REGISTERS, 0);
+        let mut words = vec![0; STATE_WORDS];
+        for (strand, registers) in self.registers.iter().enumerate() {
+            words[cell_at(strand, 0)..][..REGISTERS].copy_from_slice(registers);
         }
-        for slot in self.sides.iter().flatten() {
-            words.extend_from_slice(&words_of(slot));
+        for (side, slots) in self.sides.iter().enumerate() {
+            for (i, slot) in slots.iter().enumerate() {
+                words[slot_at(side, i)..][..SLOT_WORDS].copy_from_slice(&words_of(slot));
+            }
         }
         words
     }
@@ -319,7 +311,7 @@ impl Model {
         None
     }
 
-    /// "Insertion takes the strand's partition and tag access, its address rounded down to the word's page."
+    /// Owner and page by the strand's registers; the page's start by the word's size ("Insertion and removal").
     fn new_entry(&self, strand: u8, side: u8, flags: u8, word: u64) -> Entry {
         let registers = &self.registers[strand as usize];
         let tag = registers[20 + side as usize];
@@ -388,7 +380,7 @@ impl Model {
         Answer::Done { count }
     }
 
-    /// "Selector 0 primary, 1 secondary, 2 nucleus (context 0)."
+    /// By selector: registers 1 and 2, and no register for the nucleus.
     fn selected_context(&self, strand: u8, selector: u8) -> u64 {
         match selector {
             0 => self.registers[strand as usize][1],
@@ -487,7 +479,7 @@ impl Model {
         self.trap(a, number, 0)
     }
 
-    /// A trap that writes tag access: "the address used and the selected context, or context 0 when translation is off for the side".
+    /// A trap that writes tag access; without translation it has no context ("Access", last paragraph).
     fn trap(&mut self, a: &Access, number: u8, fault: u8) -> Answer {
         let registers = &mut self.registers[a.strand as usize];
         let context = if bit(registers[4], a.side as u32) { a.context } else { 0 };
@@ -499,7 +491,7 @@ impl Model {
         self.record(a, number, 0)
     }
 
-    /// "Every trap writes the side's registers 22 and 24"
+    /// What each trap leaves: fault address and fault status.
     fn record(&mut self, a: &Access, number: u8, fault: u8) -> Answer {
         let registers = &mut self.registers[a.strand as usize];
         registers[22 + a.side] = a.address;
@@ -526,7 +518,7 @@ fn fault_type(word: u64, mode: u64, kind: u8) -> u8 {
     sum
 }
 
-/// "address 55:13"
+/// The address bits of an entry word.
 fn word_address(word: u64) -> u64 {
     word & 0x00FF_FFFF_FFFF_E000
 }
@@ -534,7 +526,7 @@ fn word_address(word: u64) -> u64 {
 // ---- pointers
 
 impl Model {
-    /// "context of tag access picks the registers", ps0 then ps1
+    /// The tables are those of tag access's context: zero or not.
     fn pointers(&self, strand: u8, side: u8) -> Answer {
         let registers = &self.registers[strand as usize];
         let side = side as usize;
@@ -606,12 +598,12 @@ impl Model {
                 report.stop = 3;
                 break;
             }
-            if output.len() - 24 * report.answered < 24 {
+            if output.len() - ANSWER_BYTES * report.answered < ANSWER_BYTES {
                 report.stop = 4;
                 break;
             }
             let answer = self.step(decode(&input[report.taken..]));
-            output[24 * report.answered..][..24].copy_from_slice(&answer_bytes(&answer));
+            output[ANSWER_BYTES * report.answered..][..ANSWER_BYTES].copy_from_slice(&answer_bytes(&answer));
             report.answered += 1;
             report.taken += width;
         }
@@ -629,8 +621,8 @@ pub fn run(words: &mut [u64], input: &[u8], output: &mut [u8]) -> (Report, Vec<E
     (report, model.events)
 }
 
-/// "Each answer has 24 bytes: kind, a, b, c, four zeros, two big-endian values of 8."
-pub fn answer_bytes(answer: &Answer) -> [u8; 24] {
+/// Kind, a, b, c in front, the two values behind ("The stream").
+pub fn answer_bytes(answer: &Answer) -> [u8; ANSWER_BYTES] {
     let (kind, a, b, c, first, second) = match *answer {
         Answer::Done { count } => (0, 0, 0, 0, count, 0),
         Answer::Physical { attributes, address } => (1, attributes, 0, 0, address, 0),
@@ -639,7 +631,7 @@ pub fn answer_bytes(answer: &Answer) -> [u8; 24] {
         Answer::Displaced { entry: e } => (4, 0, e.partition as u8, e.real as u8, e.page + e.context, e.word),
         Answer::Refused { number } => (5, number, 0, 0, 0, 0),
     };
-    let mut bytes = [0; 24];
+    let mut bytes = [0; ANSWER_BYTES];
     bytes[..4].copy_from_slice(&[kind, a, b, c]);
     bytes[8..16].copy_from_slice(&first.to_be_bytes());
     bytes[16..].copy_from_slice(&second.to_be_bytes());

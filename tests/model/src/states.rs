@@ -1,7 +1,8 @@
 //! Random start states: sound ones that no stream need have reached, and damaged ones.
 use crate::generate::Scene;
-use crate::model::{in_range, page_size, word_allowed, Entry, Model, SLOTS, WORDS};
+use crate::model::{in_range, known, page_size, word_allowed, Entry, Model};
 use crate::random::Random;
+use t1mmu::numbers::{cell_at, slot_at, PARTITION, REGISTERS, SIDES, SLOTS, SLOT_WORDS, STATE_WORDS, STRANDS};
 
 #[derive(Clone, Copy, Debug, PartialEq, Eq)]
 pub enum Start {
@@ -37,7 +38,7 @@ fn an_entry(r: &mut Random, scene: &Scene) -> Option<Entry> {
     }
     let real = r.percent(20);
     Some(Entry {
-        partition: scene.value(r, 0) % 8,
+        partition: scene.value(r, PARTITION) % 8,
         real,
         context: if real { 0 } else { tag & 0x1FFF },
         page: tag & !(page_size(word & 15)? - 1),
@@ -51,18 +52,17 @@ fn an_entry(r: &mut Random, scene: &Scene) -> Option<Entry> {
 pub fn sound(r: &mut Random, scene: &Scene) -> Model {
     let mut model = Model::reset();
     for strand in &mut model.registers {
-        for number in (0..6).chain(8..26) {
+        for number in (0..REGISTERS as u8).filter(|n| known(*n)) {
             let value = scene.value(r, number);
-            let check = Model { registers: [[0; 26]; 4], ..Model::reset() };
-            let mut words = check.to_words();
-            words[number as usize] = value;
+            let mut words = Model::reset().to_words();
+            words[cell_at(0, number)] = value;
             if Model::from_words(&words).is_some() {
                 strand[number as usize] = value;
             }
         }
     }
-    for side in 0..2 {
-        let wanted = r.pick(&[0, 3, 40, 64, 64]);
+    for side in 0..SIDES {
+        let wanted = r.pick(&[0, 3, 40, SLOTS, SLOTS]);
         let locked = r.pick(&[None, Some(true), Some(false)]);
         let used = r.pick(&[None, Some(true), Some(false)]);
         for _ in 0..wanted * 3 {
@@ -87,20 +87,21 @@ fn fill_slot(side: &mut [Option<Entry>; SLOTS], entry: Option<Entry>, at: usize,
     }
 }
 
-fn slot_at(r: &mut Random) -> usize {
-    128 + 4 * r.below(2 * SLOTS as u64) as usize
+/// Where the words of some slot of either side begin.
+fn a_slot(r: &mut Random) -> usize {
+    let n = r.below((SIDES * SLOTS) as u64) as usize;
+    slot_at(n / SLOTS, n % SLOTS)
 }
 
 fn plant_overlap(r: &mut Random, words: &mut [u64]) {
-    let live: Vec<usize> = (128..WORDS).step_by(4).filter(|&i| words[i + 2] >> 63 == 1).collect();
+    let slots = (0..SIDES).flat_map(|side| (0..SLOTS).map(move |slot| (side, slot_at(side, slot))));
+    let live: Vec<(usize, usize)> = slots.filter(|(_, at)| words[at + 2] >> 63 == 1).collect();
     if live.is_empty() {
         return;
     }
-    let from = r.pick(&live);
-    let side = (from - 128) / 256;
-    let to = 128 + 256 * side + 4 * r.below(SLOTS as u64) as usize;
-    let copy: Vec<u64> = words[from..from + 4].to_vec();
-    words[to..to + 4].copy_from_slice(&copy);
+    let (side, from) = r.pick(&live);
+    let to = slot_at(side, r.below(SLOTS as u64) as usize);
+    words.copy_within(from..from + SLOT_WORDS, to);
     // Another size, its page rounded, still holds the start or is held.
     let code = r.pick(&[0, 1, 3, 5]);
     words[to + 2] = words[to + 2] & !15 | code;
@@ -112,21 +113,23 @@ pub fn words(r: &mut Random, scene: &Scene, start: Start) -> Vec<u64> {
     let mut words = if start == Start::Reset { Model::reset() } else { sound(r, scene) }.to_words();
     match start {
         Start::Reset | Start::Sound => {}
-        Start::FlippedBit => words[r.below(WORDS as u64) as usize] ^= 1 << r.below(64),
-        Start::RandomWord => words[r.below(WORDS as u64) as usize] = r.next() >> r.below(64),
+        Start::FlippedBit => words[r.below(STATE_WORDS as u64) as usize] ^= 1 << r.below(64),
+        Start::RandomWord => words[r.below(STATE_WORDS as u64) as usize] = r.next() >> r.below(64),
         Start::PlantedOverlap => plant_overlap(r, &mut words),
         Start::DirtyEmptySlot => {
-            let at = slot_at(r);
-            words[at..at + 4].fill(0);
-            words[at + r.below(4) as usize] = 1 << r.below(63);
+            let at = a_slot(r);
+            words[at..at + SLOT_WORDS].fill(0);
+            words[at + r.below(SLOT_WORDS as u64) as usize] = 1 << r.below(63);
         }
-        Start::RandomCell => words[r.below(128) as usize] = r.pick(&[1, 2, 3, 4, 7, 8, 16, 0x101, 0x201, 0x1000, 8191, 8192]),
+        Start::RandomCell => words[r.below(cell_at(STRANDS, 0) as u64) as usize] = r.pick(&[1, 2, 3, 4, 7, 8, 16, 0x101, 0x201, 0x1000, 8191, 8192]),
         Start::BadPage => {
-            let at = slot_at(r);
+            let at = a_slot(r);
             words[at + 1] ^= r.pick(&[1, 0x1000, 0x2000, 0x8000, 0x10000, 0x20_0000, 0x40_0000, 0x800_0000, 1 << 28, 1 << 46, 1 << 47, 1 << 63]);
         }
         Start::WrongLength => {
-            let length = r.pick(&[0, 1, 4, 128, 384, 636, 639, 641, 644, 896, 1280]);
+            let parts = [0, 1, SLOT_WORDS, slot_at(0, 0), slot_at(1, 0)];
+            let near = [STATE_WORDS - SLOT_WORDS, STATE_WORDS - 1, STATE_WORDS + 1, STATE_WORDS + SLOT_WORDS];
+            let length = r.pick(&[&parts[..], &near, &[slot_at(SIDES + 1, 0), 2 * STATE_WORDS]].concat());
             words.resize(length, 0);
         }
         Start::Noise => words.iter_mut().for_each(|w| *w = r.next()),

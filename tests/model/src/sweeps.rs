@@ -1,22 +1,24 @@
 //! Cases taken one after the other instead of at random: every operand byte, every register with values at its bounds, every
 //! attribute of a word in every mode, every state that is one bit away from a full one, every pair of page sizes side by side.
-use crate::command::{encode, Command};
+use crate::command::{encode, width, Command};
 use crate::compare::Stream;
 use crate::generate::Run;
-use crate::model::{Entry, Model, SLOTS, WORDS};
+use crate::model::{Entry, Model};
 use crate::states::Start;
+use t1mmu::numbers::{ADDRESS_MASK, MODE, PRIMARY_CONTEXT, SECONDARY_CONTEXT, TAG_ACCESS, TRANSLATION};
+use t1mmu::numbers::{ANSWER_BYTES, SLOTS, STATE_WORDS};
 
 const PAGE: u64 = 0x4000_0000;
 
 fn from_reset(seed: u64, commands: Vec<Command>) -> Stream {
-    let room = 24 * commands.len() + 7;
+    let room = ANSWER_BYTES * commands.len() + 7;
     let input = commands.into_iter().flat_map(encode).collect();
     Stream { seed, start: Start::Reset, words: Model::reset().to_words(), runs: vec![Run { input, room }] }
 }
 
 fn from_words(seed: u64, start: Start, words: Vec<u64>) -> Stream {
-    let input = [Command::Read { strand: 0, register: 3 }, Command::DemapAll { strand: 0, side: 1 }].into_iter().flat_map(encode).collect();
-    Stream { seed, start, words, runs: vec![Run { input, room: 60 }] }
+    let input = [Command::Read { strand: 0, register: MODE }, Command::DemapAll { strand: 0, side: 1 }].into_iter().flat_map(encode).collect();
+    Stream { seed, start, words, runs: vec![Run { input, room: 2 * ANSWER_BYTES + 12 }] }
 }
 
 /// Both sides full: all sizes, partitions and contexts, real and virtual, locked and not.
@@ -60,7 +62,7 @@ fn registers() -> Stream {
 fn operands() -> Stream {
     let word = 1 << 63 | 0x440;
     let plain = [
-        Command::Write { strand: 1, register: 1, value: 5 },
+        Command::Write { strand: 1, register: PRIMARY_CONTEXT, value: 5 },
         Command::Insert { strand: 1, side: 1, flags: 0, word },
         Command::DemapPage { strand: 1, side: 1, selector: 0, flags: 0, address: PAGE },
         Command::DemapContext { strand: 1, side: 1, selector: 0 },
@@ -68,7 +70,7 @@ fn operands() -> Stream {
         Command::Invalidate { side: 1 },
         Command::Access { strand: 1, kind: 1, selector: 0, size: 3, address: PAGE },
         Command::Access { strand: 1, kind: 0, selector: 0, size: 2, address: PAGE },
-        Command::Read { strand: 1, register: 21 },
+        Command::Read { strand: 1, register: TAG_ACCESS + 1 },
         Command::Pointers { strand: 1, side: 1 },
     ];
     let mut input = Vec::new();
@@ -79,7 +81,7 @@ fn operands() -> Stream {
             let small = if bytes.len() > 8 { bytes.len() - 8 } else { bytes.len() };
             for at in 1..small {
                 for byte in 0..=255 {
-                    input.extend(encode(Command::Write { strand: 1, register: 3, value: mode }));
+                    input.extend(encode(Command::Write { strand: 1, register: MODE, value: mode }));
                     let mut changed = bytes.clone();
                     changed[at] = byte;
                     input.extend(changed);
@@ -87,7 +89,8 @@ fn operands() -> Stream {
             }
         }
     }
-    let room = 24 * input.len() / 13 * 7;
+    // No command has fewer than two bytes.
+    let room = ANSWER_BYTES * input.len() / 2;
     Stream { seed: 2, start: Start::Reset, words: Model::reset().to_words(), runs: vec![Run { input, room }] }
 }
 
@@ -98,20 +101,22 @@ fn codes() -> Vec<Stream> {
         input[0] = code;
         Run { input, room }
     };
-    let runs = |code: u8| (1..14).flat_map(move |n| [0, 23, 24, 25, 48].map(|room| run(code, n, room))).collect();
+    let longest = (0..=255).filter_map(width).max().expect("a known code");
+    let rooms = [0, ANSWER_BYTES - 1, ANSWER_BYTES, ANSWER_BYTES + 1, 2 * ANSWER_BYTES];
+    let runs = |code: u8| (1..=longest).flat_map(move |n| rooms.map(|room| run(code, n, room))).collect();
     (0..=255).map(|code| Stream { seed: code as u64, start: Start::Reset, words: Model::reset().to_words(), runs: runs(code) }).collect()
 }
 
 /// All of nfo, ie, e, cp, p, w in one mode, translation and mask, met by every kind, selector and size.
 fn attributes(mode: u64, translation: u64, mask: u64) -> Stream {
     let mut commands = Vec::new();
-    for (register, value) in [(3, mode), (4, translation), (5, mask), (1, 5), (2, 6)] {
+    for (register, value) in [(MODE, mode), (TRANSLATION, translation), (ADDRESS_MASK, mask), (PRIMARY_CONTEXT, 5), (SECONDARY_CONTEXT, 6)] {
         commands.push(Command::Write { strand: 2, register, value });
     }
     for bits in 0..64u64 {
         let word = 1 << 63 | (bits >> 5) << 62 | (bits >> 2 & 7) << 10 | (bits >> 1 & 1) << 8 | (bits & 1) << 6 | 0x55_5555_2000;
         for (side, context, flags) in [(0, 5, 0), (1, 5, 0), (1, 6, 0), (1, 0, 0), (0, 0, 0), (0, 0, 1), (1, 5, 1)] {
-            commands.push(Command::Write { strand: 2, register: 20 + side, value: PAGE | context });
+            commands.push(Command::Write { strand: 2, register: TAG_ACCESS + side, value: PAGE | context });
             commands.push(Command::Insert { strand: 2, side, flags, word });
         }
         for kind in 0..6 {
@@ -138,7 +143,8 @@ fn neighbours() -> Vec<Stream> {
             for base in [PAGE, 0xFFFF_FFFF_F000_0000, 0, 0xFFFF_8000_0000_0000] {
                 for (n, near) in [0, 1 << by, (1u64 << by) - 1, 1 << other_by, 1u64.wrapping_neg(), 1 << 13, 1 << 22].into_iter().enumerate() {
                     let second = base.wrapping_add(near) >> other_by << other_by;
-                    all.extend([0, 1, 1 << 13, 1 << 14].map(|apart| pair([base, one], [second, other], apart, n)));
+                    let owners = [(0, false, 0), (0, false, 1), (0, true, 0), (1, false, 0)];
+                    all.extend(owners.map(|owner| pair([base, one], [second, other], owner, n)));
                 }
             }
         }
@@ -146,19 +152,23 @@ fn neighbours() -> Vec<Stream> {
     all
 }
 
-fn pair(one: [u64; 2], other: [u64; 2], apart: u64, n: usize) -> Stream {
-    let mut words = Model::reset().to_words();
-    let at = 128 + 256 * (n % 2);
-    words[at + 4 * (n * 5)..][..4].copy_from_slice(&[0, one[0], 1 << 63 | one[1], 2]);
-    words[at + 4 * (63 - n)..][..4].copy_from_slice(&[apart, other[0], 1 << 63 | other[1], 0]);
-    from_words(4, Start::PlantedOverlap, words)
+/// Two entries by page and size code, the first of owner 0, the other of the owner given.
+fn pair(one: [u64; 2], other: [u64; 2], owner: (u64, bool, u64), n: usize) -> Stream {
+    let mut model = Model::reset();
+    let entry = |(partition, real, context), [page, code]: [u64; 2], used| {
+        Some(Entry { partition, real, context, page, word: 1 << 63 | code, locked: false, used })
+    };
+    let side = &mut model.sides[n % 2];
+    side[n * 5] = entry((0, false, 0), one, true);
+    side[SLOTS - 1 - n] = entry(owner, other, false);
+    from_words(4, Start::PlantedOverlap, model.to_words())
 }
 
 /// Every state one bit away from a full one and from reset.
 fn flips() -> impl Iterator<Item = Stream> {
     let starts = [full_state(), Model::reset().to_words()];
     starts.into_iter().flat_map(|words| {
-        (0..WORDS * 64).map(move |i| {
+        (0..STATE_WORDS * 64).map(move |i| {
             let mut flipped = words.clone();
             flipped[i / 64] ^= 1 << (i % 64);
             from_words(5, Start::FlippedBit, flipped)
@@ -168,6 +178,6 @@ fn flips() -> impl Iterator<Item = Stream> {
 
 pub fn all() -> impl Iterator<Item = Stream> {
     let modes = (0..3).flat_map(|mode| (0..4).flat_map(move |translation| (0..2).map(move |mask| attributes(mode, translation, mask))));
-    let lengths = (0..=1400).map(|n| from_words(6, Start::WrongLength, vec![0; n])).filter(|s| s.words.len() != WORDS);
+    let lengths = (0..=2 * STATE_WORDS + 120).filter(|n| *n != STATE_WORDS).map(|n| from_words(6, Start::WrongLength, vec![0; n]));
     [registers(), operands()].into_iter().chain(codes()).chain(modes).chain(neighbours()).chain(flips()).chain(lengths)
 }

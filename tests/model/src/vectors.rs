@@ -2,8 +2,10 @@
 use crate::command::{decode, width};
 use crate::ledger::Ledger;
 use crate::library;
-use crate::model::{self, Model, Report};
+use crate::model::{Model, Report};
+use t1mmu::numbers::{ANSWER_BYTES, STATE_WORDS};
 
+/// What the stream program reads at most, and its room for answers.
 const INPUT_MOST: usize = 4096;
 const ROOM: usize = 49152;
 
@@ -36,7 +38,7 @@ pub fn read(text: &str) -> Vec<Vector> {
 
 fn printed(report: Report, output: &[u8]) -> String {
     let mut text = String::new();
-    for answer in output.chunks(24).take(report.answered) {
+    for answer in output.chunks(ANSWER_BYTES).take(report.answered) {
         text += &answer.iter().map(|b| format!("{b:02x}")).collect::<String>();
         text += "\n";
     }
@@ -51,7 +53,7 @@ pub fn by_model(input: &[u8]) -> String {
 }
 
 pub fn by_library(input: &[u8]) -> String {
-    let mut state = vec![0; model::WORDS];
+    let mut state = vec![0; STATE_WORDS];
     let mut output = vec![0; ROOM];
     library::reset(&mut state);
     let report = library::run(&mut state, &input[..input.len().min(INPUT_MOST)], &mut output);
