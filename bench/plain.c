@@ -4,9 +4,12 @@
 #include <stdint.h>
 #include <string.h>
 
+#include "t1mmu.h"
+
 typedef uint64_t u64;
 
-enum { SLOTS = 64 };
+/* Sizes, widths and the library's words are those of its header; all else is this unit's own. */
+enum { SLOTS = T1MMU_SLOTS };
 
 struct slot {
     u64 page, word;
@@ -16,13 +19,8 @@ struct slot {
 };
 
 struct unit {
-    u64 registers[4][32];
-    struct slot sides[2][SLOTS];
-};
-
-struct report {
-    size_t answered, taken;
-    uint8_t stop;
+    u64 registers[T1MMU_STRANDS][T1MMU_CELLS];
+    struct slot sides[T1MMU_SIDES][SLOTS];
 };
 
 static const uint8_t shifts[16] = {13, 16, 0, 22, 0, 28};
@@ -64,8 +62,8 @@ static bool side_sound(const struct slot *side) {
 }
 
 static bool sound(const struct unit *u) {
-    for (int s = 0; s < 4; s++)
-        for (int n = 0; n < 32; n++)
+    for (int s = 0; s < T1MMU_STRANDS; s++)
+        for (int n = 0; n < T1MMU_CELLS; n++)
             if (!value_allowed(n, u->registers[s][n])) return false;
     return side_sound(u->sides[0]) && side_sound(u->sides[1]);
 }
@@ -240,15 +238,25 @@ static unsigned act(struct unit *u, const uint8_t *b, uint8_t *out) {
 }
 
 /* The state is taken to be sound. */
-struct report plain_run_unchecked(struct unit *u, const uint8_t *input, size_t length, uint8_t *output, size_t room) {
-    static const uint8_t widths[10] = {0, 11, 12, 13, 4, 3, 2, 13, 3, 3};
-    struct report r = {0, 0, 0};
+struct t1mmu_report plain_run_unchecked(struct unit *u, const uint8_t *input, size_t length, uint8_t *output, size_t room) {
+    static const uint8_t widths[10] = {
+        [T1MMU_WRITE] = T1MMU_WRITE_BYTES,
+        [T1MMU_INSERT] = T1MMU_INSERT_BYTES,
+        [T1MMU_DEMAP_PAGE] = T1MMU_DEMAP_PAGE_BYTES,
+        [T1MMU_DEMAP_CONTEXT] = T1MMU_DEMAP_CONTEXT_BYTES,
+        [T1MMU_DEMAP_ALL] = T1MMU_DEMAP_ALL_BYTES,
+        [T1MMU_INVALIDATE] = T1MMU_INVALIDATE_BYTES,
+        [T1MMU_ACCESS] = T1MMU_ACCESS_BYTES,
+        [T1MMU_READ] = T1MMU_READ_BYTES,
+        [T1MMU_POINTERS] = T1MMU_POINTERS_BYTES,
+    };
+    struct t1mmu_report r = {0, 0, 0};
     while (r.taken < length) {
         uint8_t code = input[r.taken];
         if (code < 1 || code > 9) { r.stop = 2; break; }
         if (length - r.taken < widths[code]) { r.stop = 3; break; }
-        if (room - 24 * r.answered < 24) { r.stop = 4; break; }
-        uint8_t *out = output + 24 * r.answered;
+        if (room - T1MMU_ANSWER_BYTES * r.answered < T1MMU_ANSWER_BYTES) { r.stop = 4; break; }
+        uint8_t *out = output + T1MMU_ANSWER_BYTES * r.answered;
         unsigned number = act(u, input + r.taken, out);
         if (number) answer(out, 5, number, 0, 0, 0, 0);
         r.answered++;
@@ -257,8 +265,8 @@ struct report plain_run_unchecked(struct unit *u, const uint8_t *input, size_t l
     return r;
 }
 
-struct report plain_run(struct unit *u, const uint8_t *input, size_t length, uint8_t *output, size_t room) {
-    if (!sound(u)) return (struct report){0, 0, 1};
+struct t1mmu_report plain_run(struct unit *u, const uint8_t *input, size_t length, uint8_t *output, size_t room) {
+    if (!sound(u)) return (struct t1mmu_report){0, 0, 1};
     return plain_run_unchecked(u, input, length, output, room);
 }
 
@@ -267,18 +275,18 @@ size_t plain_size(void) { return sizeof(struct unit); }
 /* From and to the library's words, outside what is measured. */
 void plain_load(struct unit *u, const u64 *words) {
     memset(u, 0, sizeof *u);
-    memcpy(u->registers, words, sizeof u->registers);
-    for (int i = 0; i < 2 * SLOTS; i++) {
-        const u64 *w = words + 128 + 4 * i;
+    memcpy(u->registers, words + T1MMU_CELL_AT(0, 0), sizeof u->registers);
+    for (int i = 0; i < T1MMU_SIDES * SLOTS; i++) {
+        const u64 *w = words + T1MMU_SLOT_AT(i / SLOTS, i % SLOTS);
         u->sides[i / SLOTS][i % SLOTS] = (struct slot){w[1], w[2], w[0] & 0x1FFF, w[0] >> 14, w[0] >> 13 & 1, w[3] & 1, w[3] >> 1};
     }
 }
 
 void plain_store(const struct unit *u, u64 *words) {
-    memcpy(words, u->registers, sizeof u->registers);
-    for (int i = 0; i < 2 * SLOTS; i++) {
+    memcpy(words + T1MMU_CELL_AT(0, 0), u->registers, sizeof u->registers);
+    for (int i = 0; i < T1MMU_SIDES * SLOTS; i++) {
         const struct slot *s = &u->sides[i / SLOTS][i % SLOTS];
-        u64 *w = words + 128 + 4 * i;
+        u64 *w = words + T1MMU_SLOT_AT(i / SLOTS, i % SLOTS);
         w[0] = (u64)s->partition << 14 | (u64)s->real << 13 | s->context;
         w[1] = s->page, w[2] = s->word, w[3] = s->locked | s->used << 1;
     }

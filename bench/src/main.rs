@@ -4,20 +4,13 @@ mod work;
 
 use std::process::{exit, Command};
 use std::time::Instant;
+use t1mmu::sys::{t1mmu_run, Report};
+use t1mmu::{ANSWER_BYTES, STATE_WORDS};
 use work::{Short, Work};
-
-#[repr(C)]
-#[derive(Clone, Copy, Debug, PartialEq)]
-pub struct Report {
-    answered: usize,
-    taken: usize,
-    stop: u8,
-}
 
 type PlainRun = unsafe extern "C" fn(unit: *mut u64, input: *const u8, length: usize, output: *mut u8, room: usize) -> Report;
 
 extern "C" {
-    fn t1mmu_run(state: *mut u64, words: usize, input: *const u8, length: usize, output: *mut u8, room: usize) -> Report;
     fn plain_run(unit: *mut u64, input: *const u8, length: usize, output: *mut u8, room: usize) -> Report;
     fn plain_run_unchecked(unit: *mut u64, input: *const u8, length: usize, output: *mut u8, room: usize) -> Report;
     fn plain_size() -> usize;
@@ -40,7 +33,7 @@ impl Contestant {
             0 => Contestant::Library(words.to_vec()),
             1 => Contestant::Rust(plain::Unit::load(words)),
             _ => {
-                // SAFETY: the unit has the size that the C side gives, and words has a state's 640.
+                // SAFETY: the unit has the size that the C side gives, and words is a state.
                 let mut unit = vec![0; unsafe { plain_size() }.div_ceil(8)];
                 unsafe { plain_load(unit.as_mut_ptr(), words.as_ptr()) };
                 Contestant::C(unit, if which == 2 { plain_run } else { plain_run_unchecked })
@@ -64,8 +57,8 @@ impl Contestant {
             Contestant::Library(s) => s.clone(),
             Contestant::Rust(unit) => unit.words(),
             Contestant::C(u, _) => {
-                let mut words = vec![0; 640];
-                // SAFETY: words has a state's 640.
+                let mut words = vec![0; STATE_WORDS];
+                // SAFETY: words is a state.
                 unsafe { plain_store(u.as_ptr(), words.as_mut_ptr()) };
                 words
             }
@@ -98,7 +91,7 @@ fn pass(c: &mut Contestant, runs: &[Vec<u8>], output: &mut [u8]) -> usize {
 
 /// Room for every answer of each of the works.
 fn room(works: &[&Work]) -> Vec<u8> {
-    vec![0; 24 * works.iter().flat_map(|w| w.runs()).map(|r| r.len() / 2 + 1).max().unwrap_or(0)]
+    vec![0; ANSWER_BYTES * works.iter().flat_map(|w| w.runs()).map(|r| r.len() / 2 + 1).max().unwrap_or(0)]
 }
 
 /// All give the same bytes, reports and words, so that they are measured at the same work.

@@ -1,8 +1,21 @@
 //! The unit as one would write it in Rust for speed without proofs: own structs, a linear scan, a pairwise soundness test.
+use t1mmu::numbers::{self, cell_at, slot_at, ANSWER_BYTES, CELLS, SIDES, SLOTS, SLOT_WORDS, STATE_WORDS, STRANDS};
+use t1mmu::sys::Report;
 
-const SLOTS: usize = 64;
 const SHIFTS: [u8; 16] = [13, 16, 0, 22, 0, 28, 0, 0, 0, 0, 0, 0, 0, 0, 0, 0];
-const WIDTHS: [usize; 10] = [0, 11, 12, 13, 4, 3, 2, 13, 3, 3];
+/// By command byte.
+const WIDTHS: [usize; 10] = [
+    0,
+    numbers::WRITE_BYTES,
+    numbers::INSERT_BYTES,
+    numbers::DEMAP_PAGE_BYTES,
+    numbers::DEMAP_CONTEXT_BYTES,
+    numbers::DEMAP_ALL_BYTES,
+    numbers::INVALIDATE_BYTES,
+    numbers::ACCESS_BYTES,
+    numbers::READ_BYTES,
+    numbers::POINTERS_BYTES,
+];
 
 #[derive(Clone, Copy, Default)]
 struct Slot {
@@ -15,12 +28,12 @@ struct Slot {
     used: bool,
 }
 
-pub struct Unit {
-    registers: [[u64; 32]; 4],
-    sides: [[Slot; SLOTS]; 2],
-}
+type Registers = [u64; CELLS];
 
-pub use crate::Report;
+pub struct Unit {
+    registers: [Registers; STRANDS],
+    sides: [[Slot; SLOTS]; SIDES],
+}
 
 fn in_range(a: u64) -> bool {
     a < 1 << 47 || a >= (1u64 << 47).wrapping_neg()
@@ -79,7 +92,7 @@ fn take8(b: &[u8]) -> u64 {
     u64::from_be_bytes(b[..8].try_into().expect("eight bytes"))
 }
 
-type Out<'a> = &'a mut [u8; 24];
+type Out<'a> = &'a mut [u8; ANSWER_BYTES];
 
 fn answer(out: Out, head: [u8; 4], first: u64, second: u64) {
     out[..4].copy_from_slice(&head);
@@ -88,7 +101,7 @@ fn answer(out: Out, head: [u8; 4], first: u64, second: u64) {
     out[16..].copy_from_slice(&second.to_be_bytes());
 }
 
-fn selected(r: &[u64; 32], selector: u8) -> u64 {
+fn selected(r: &Registers, selector: u8) -> u64 {
     match selector {
         0 => r[1],
         1 => r[2],
@@ -102,7 +115,7 @@ struct Cause {
     address: u64,
 }
 
-fn trap(r: &mut [u64; 32], c: &Cause, tags: bool, number: u8, fault: u8, out: Out) {
+fn trap(r: &mut Registers, c: &Cause, tags: bool, number: u8, fault: u8, out: Out) {
     if tags {
         r[20 + c.side] = c.address & !0x1FFF | if r[4] >> c.side & 1 == 1 { c.context } else { 0 };
     }
@@ -335,7 +348,7 @@ impl Unit {
                 report.stop = 3;
                 break;
             }
-            let Some(out) = output[24 * report.answered..].first_chunk_mut::<24>() else {
+            let Some(out) = output[ANSWER_BYTES * report.answered..].first_chunk_mut::<ANSWER_BYTES>() else {
                 report.stop = 4;
                 break;
             };
@@ -351,31 +364,57 @@ impl Unit {
 
     /// From the library's words, outside what is measured.
     pub fn load(words: &[u64]) -> Box<Unit> {
-        let mut unit = Box::new(Unit { registers: [[0; 32]; 4], sides: [[Slot::default(); SLOTS]; 2] });
-        for (i, w) in words[..128].iter().enumerate() {
-            unit.registers[i / 32][i % 32] = *w;
+        let mut unit = Box::new(Unit { registers: [[0; CELLS]; STRANDS], sides: [[Slot::default(); SLOTS]; SIDES] });
+        for (strand, registers) in unit.registers.iter_mut().enumerate() {
+            registers.copy_from_slice(&words[cell_at(strand, 0)..][..CELLS]);
         }
-        for (i, w) in words[128..].chunks(4).enumerate() {
-            unit.sides[i / SLOTS][i % SLOTS] = Slot {
-                page: w[1],
-                word: w[2],
-                context: (w[0] & 0x1FFF) as u16,
-                partition: (w[0] >> 14) as u8,
-                real: w[0] >> 13 & 1 == 1,
-                locked: w[3] & 1 == 1,
-                used: w[3] >> 1 == 1,
-            };
+        for (side, slots) in unit.sides.iter_mut().enumerate() {
+            for (i, slot) in slots.iter_mut().enumerate() {
+                *slot = Slot::load(&words[slot_at(side, i)..][..SLOT_WORDS]);
+            }
         }
         unit
     }
 
     pub fn words(&self) -> Vec<u64> {
-        let mut words: Vec<u64> = self.registers.iter().flatten().copied().collect();
-        for s in self.sides.iter().flatten() {
-            let owner = (s.partition as u64) << 14 | (s.real as u64) << 13 | s.context as u64;
-            words.extend([owner, s.page, s.word, s.locked as u64 | (s.used as u64) << 1]);
+        let mut words = vec![0; STATE_WORDS];
+        for (strand, registers) in self.registers.iter().enumerate() {
+            words[cell_at(strand, 0)..][..CELLS].copy_from_slice(registers);
+        }
+        for (side, slots) in self.sides.iter().enumerate() {
+            for (i, slot) in slots.iter().enumerate() {
+                words[slot_at(side, i)..][..SLOT_WORDS].copy_from_slice(&slot.words());
+            }
         }
         words
+    }
+}
+
+/// The first of a slot's words.
+pub fn owner(partition: u64, real: bool, context: u64) -> u64 {
+    partition << 14 | (real as u64) << 13 | context
+}
+
+pub fn partition_of(owner: u64) -> u64 {
+    owner >> 14
+}
+
+impl Slot {
+    fn load(w: &[u64]) -> Slot {
+        Slot {
+            page: w[1],
+            word: w[2],
+            context: (w[0] & 0x1FFF) as u16,
+            partition: partition_of(w[0]) as u8,
+            real: w[0] >> 13 & 1 == 1,
+            locked: w[3] & 1 == 1,
+            used: w[3] >> 1 == 1,
+        }
+    }
+
+    fn words(&self) -> [u64; SLOT_WORDS] {
+        let owner = owner(self.partition as u64, self.real, self.context as u64);
+        [owner, self.page, self.word, self.locked as u64 | (self.used as u64) << 1]
     }
 }
 

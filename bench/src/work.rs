@@ -1,11 +1,17 @@
 //! What is measured: a start state, and the inputs of one pass over it.
-
+use crate::plain::{owner, partition_of};
 use std::cell::LazyCell;
+use t1mmu::numbers::{cell_at, slot_at, SIDES, SLOTS, SLOT_WORDS, STATE_WORDS, STRANDS};
+use t1mmu::numbers::{ACCESS, DEMAP_ALL, DEMAP_CONTEXT, DEMAP_PAGE, INSERT, POINTERS, READ, WRITE};
+use t1mmu::numbers::{DATA, DATA_ON, FETCH_ON, HYPERPRIVILEGED, LOAD, PRIMARY, PRIVILEGED, SECONDARY};
+use t1mmu::numbers::{MODE, PARTITION, PRIMARY_CONTEXT, SECONDARY_CONTEXT, TAG_ACCESS, TRANSLATION};
 
 const TAG: u64 = 0x1000_0000;
 const CONTEXT: u64 = 5;
-/// The owner of partition 0's real pages.
-const REAL: u64 = 1 << 13;
+/// The size code of an access of 8 bytes.
+const EIGHT_BYTES: u8 = 3;
+/// A register that no strand has.
+const NO_REGISTER: u8 = 99;
 /// Where the upper half of the addresses begins.
 const UPPER: u64 = 0xFFFF_8000_0000_0000;
 /// Commands of a pass, but for the longest runs.
@@ -64,45 +70,44 @@ pub enum Population {
 /// Owner, page and word of the q-th entry.
 fn entry(population: Population, q: u64, r: &mut Random) -> [u64; 3] {
     let word = 1 << 63 | q << 29 | 0x440;
-    let virtual_of = |partition: u64| partition << 14 | CONTEXT;
+    let virtual_of = |partition: u64| owner(partition, false, CONTEXT);
     match population {
         Population::OneGuest => [virtual_of(0), TAG + q * 0x2000, word],
         Population::EightPartitions => [virtual_of(q % 8), TAG + q * 0x2000, word],
         Population::FourSizes => [virtual_of(0), (q + 1) << 28, word | [0, 1, 3, 5][q as usize % 4]],
         Population::Worst if q == 0 => [virtual_of(0), 0x8000_0000, word | 5],
         Population::Worst => [virtual_of(0), TAG + q * 0x2000, word],
-        Population::RandomPages => [(r.below(8) << 14 | r.below(100)) as u64, (r.below(1 << 34) << 13) as u64, word],
+        Population::RandomPages => [owner(r.below(8) as u64, false, r.below(100) as u64), (r.below(1 << 34) << 13) as u64, word],
         Population::Scattered => [virtual_of(0), (r.below(1 << 34) << 13) as u64, word],
-        Population::RealAndVirtual => [[virtual_of(0), REAL][q as usize % 2], TAG + q * 0x2000, word],
+        Population::RealAndVirtual => [[virtual_of(0), owner(0, true, 0)][q as usize % 2], TAG + q * 0x2000, word],
         Population::BothHalves => [virtual_of(0), [TAG, UPPER][q as usize % 2] + q * 0x2000, word],
     }
 }
 
 /// Both sides full.
 fn state(population: Population) -> Vec<u64> {
-    filled(population, 64)
+    filled(population, SLOTS)
 }
 
 /// As many entries on both sides, in the same shuffled order, used bits set; strand s has partition 2 s where there are eight.
 fn filled(population: Population, entries: usize) -> Vec<u64> {
     let mut r = Random(88172645463325252);
-    let mut words = vec![0; 640];
-    for strand in 0..4 {
-        let cells = &mut words[32 * strand..];
-        cells[0] = if population == Population::EightPartitions { 2 * strand as u64 } else { 0 };
-        cells[1] = CONTEXT;
-        cells[2] = CONTEXT + 1;
-        cells[3] = 1;
-        cells[4] = 3;
-        cells[20] = TAG | CONTEXT;
-        cells[21] = TAG | CONTEXT;
+    let mut words = vec![0; STATE_WORDS];
+    for strand in 0..STRANDS {
+        let mut set = |register: u8, value: u64| words[cell_at(strand, register)] = value;
+        set(PARTITION, if population == Population::EightPartitions { 2 * strand as u64 } else { 0 });
+        set(PRIMARY_CONTEXT, CONTEXT);
+        set(SECONDARY_CONTEXT, CONTEXT + 1);
+        set(MODE, PRIVILEGED);
+        set(TRANSLATION, FETCH_ON + DATA_ON);
+        (0..SIDES).for_each(|side| set(TAG_ACCESS + side as u8, TAG | CONTEXT));
     }
-    let mut places: Vec<usize> = (0..64).collect();
-    (1..64).rev().for_each(|i| places.swap(i, r.below(i + 1)));
+    let mut places: Vec<usize> = (0..SLOTS).collect();
+    (1..SLOTS).rev().for_each(|i| places.swap(i, r.below(i + 1)));
     for (q, place) in places[..entries].iter().enumerate() {
         let [owner, page, word] = entry(population, q as u64, &mut r);
-        for side in 0..2 {
-            words[128 + 256 * side + 4 * place..][..4].copy_from_slice(&[owner, page, word, 2]);
+        for side in 0..SIDES {
+            words[slot_at(side, *place)..][..SLOT_WORDS].copy_from_slice(&[owner, page, word, 2]);
         }
     }
     words
@@ -113,15 +118,22 @@ fn with(head: &[u8], value: u64) -> Vec<u8> {
 }
 
 fn load(strand: u64, address: u64) -> Vec<u8> {
-    with(&[7, strand as u8, 1, 0, 3], address)
+    with(&[ACCESS, strand as u8, LOAD, PRIMARY, EIGHT_BYTES], address)
+}
+
+fn insert(strand: u8, word: u64) -> Vec<u8> {
+    with(&[INSERT, strand, DATA, 0], word)
+}
+
+fn demap_page(strand: u8, address: u64) -> Vec<u8> {
+    with(&[DEMAP_PAGE, strand, DATA, PRIMARY, 0], address)
 }
 
 /// A load that hits a random live entry of the data side.
 fn hit(words: &[u64], r: &mut Random) -> Vec<u8> {
     loop {
-        let slot = &words[384 + 4 * r.below(64)..][..3];
-        let partition = slot[0] >> 14;
-        if let Some(strand) = (0..4).find(|&s| words[32 * s] == partition) {
+        let slot = &words[slot_at(DATA as usize, r.below(SLOTS))..][..SLOT_WORDS];
+        if let Some(strand) = (0..STRANDS).find(|&s| words[cell_at(s, PARTITION)] == partition_of(slot[0])) {
             return load(strand as u64, slot[1] + 8 * r.below(1024) as u64);
         }
     }
@@ -157,7 +169,7 @@ fn soundness(name: &str, goal: f64, words: Vec<u64>) -> Work {
 
 fn lookups() -> Vec<Work> {
     let (one, eight) = (state(Population::OneGuest), state(Population::EightPartitions));
-    let first = one[385];
+    let first = one[slot_at(DATA as usize, 0) + 1];
     vec![
         long("hit, first slot", 0.7, &one, move |i| load(0, first + 8 * (i as u64 % 1024))),
         long_hits("hit, random slot, one guest", 0.7, one.clone()),
@@ -172,14 +184,14 @@ fn lookups() -> Vec<Work> {
 
 fn hyperprivileged(words: &[u64]) -> Vec<u64> {
     let mut words = words.to_vec();
-    (0..4).for_each(|s| words[32 * s + 3] = 2);
+    (0..STRANDS).for_each(|strand| words[cell_at(strand, MODE)] = HYPERPRIVILEGED);
     words
 }
 
 /// Each insertion has a page of its own: 2,048 pages pass before one comes again.
 fn displacing(i: usize, strand: u8) -> Vec<u8> {
     let page = 0x4000_0000 + 0x2000 * (i as u64 % 2048);
-    [with(&[1, strand, 21], page | CONTEXT), with(&[2, strand, 1, 0], 1 << 63 | (i as u64) << 13 | 0x440)].concat()
+    [with(&[WRITE, strand, TAG_ACCESS + DATA], page | CONTEXT), insert(strand, 1 << 63 | (i as u64) << 13 | 0x440)].concat()
 }
 
 fn changes() -> Vec<Work> {
@@ -189,31 +201,31 @@ fn changes() -> Vec<Work> {
     vec![
         long("tag access and insertion with displacement, one guest (a pair)", 1.0, &one, |i| displacing(i, 0)),
         long("the same, eight partitions", 1.0, &eight, |i| displacing(i, i as u8 % 4)),
-        long("insertion over the same page, full side", 1.0, &one, move |_| with(&[2, 0, 1, 0], own)),
+        long("insertion over the same page, full side", 1.0, &one, move |_| insert(0, own)),
         long("demap page and insertion again (a pair)", 1.0, &one, move |_| {
-            [with(&[3, 0, 1, 0, 0], TAG), with(&[2, 0, 1, 0], own)].concat()
+            [demap_page(0, TAG), insert(0, own)].concat()
         }),
-        long("demap page, none there", 1.0, &one, move |_| with(&[3, 0, 1, 0, 0], absent)),
-        long("demap page, none there, eight partitions", 1.0, &eight, move |i| with(&[3, i as u8 % 4, 1, 0, 0], absent)),
-        long("demap context, none there", 1.0, &one, |_| vec![4, 0, 1, 1]),
-        long("demap all, none there", 1.0, &other_partition(&one), |_| vec![5, 0, 1]),
+        long("demap page, none there", 1.0, &one, move |_| demap_page(0, absent)),
+        long("demap page, none there, eight partitions", 1.0, &eight, move |i| demap_page(i as u8 % 4, absent)),
+        long("demap context, none there", 1.0, &one, |_| vec![DEMAP_CONTEXT, 0, DATA, SECONDARY]),
+        long("demap all, none there", 1.0, &other_partition(&one), |_| vec![DEMAP_ALL, 0, DATA]),
     ]
 }
 
 /// Strand 0 in a partition without entries.
 fn other_partition(words: &[u64]) -> Vec<u64> {
     let mut words = words.to_vec();
-    words[0] = 3;
+    words[cell_at(0, PARTITION)] = 3;
     words
 }
 
 fn small() -> Vec<Work> {
     let one = state(Population::OneGuest);
     vec![
-        long("write of a register", 1.0, &one, |i| with(&[1, 0, 2], i as u64)),
-        long("read of a register", 1.0, &one, |i| vec![8, 0, i as u8 % 6]),
-        long("pointers", 1.0, &one, |_| vec![9, 0, 1]),
-        long("refused (register 99)", 1.0, &one, |_| vec![8, 0, 99]),
+        long("write of a register", 1.0, &one, |i| with(&[WRITE, 0, SECONDARY_CONTEXT], i as u64)),
+        long("read of a register", 1.0, &one, |i| vec![READ, 0, i as u8 % 6]),
+        long("pointers", 1.0, &one, |_| vec![POINTERS, 0, DATA]),
+        long(&format!("refused (register {NO_REGISTER})"), 1.0, &one, |_| vec![READ, 0, NO_REGISTER]),
     ]
 }
 
@@ -232,7 +244,7 @@ fn states() -> Vec<Work> {
         soundness("full sides, real and virtual", 0.25, state(Population::RealAndVirtual)),
         soundness("full sides, both halves", 0.25, state(Population::BothHalves)),
         // as after a reset
-        soundness("sides, empty", 1.0, hyperprivileged(&[0; 640])),
+        soundness("sides, empty", 1.0, hyperprivileged(&[0; STATE_WORDS])),
     ]
 }
 
