@@ -86,19 +86,19 @@ static uint64_t entry_word(struct source *s)
 
 static uint64_t value(struct source *s, unsigned number)
 {
-    static const uint64_t limit[6] = {8, 8192, 8192, 3, 4, 2};
-    if (number < 6)
+    static const uint64_t limit[T1MMU_ADDRESS_MASK + 1] = {8, 8192, 8192, 3, 4, 2};
+    if (number <= T1MMU_ADDRESS_MASK)
         return mostly(s, 4) % limit[number];
-    if (number < 16)
+    if (number < T1MMU_TSB_CONFIGURATION)
         return (uint64_t)draw(s) << 13 | (draw(s) & 0x0f);
-    if (number < 20)
+    if (number < T1MMU_TAG_ACCESS)
         return (draw(s) & 1) | (draw(s) & 1) * 0x300u;
     return address(s) / 0x2000 * 0x2000 + mostly(s, 3);
 }
 
 static void put_write(struct source *s, struct stream *t)
 {
-    unsigned strand = mostly(s, 4), number = draw(s) % 26;
+    unsigned strand = mostly(s, T1MMU_STRANDS), number = draw(s) % T1MMU_REGISTERS;
     put(t, T1MMU_WRITE);
     put(t, strand);
     put(t, number);
@@ -108,7 +108,7 @@ static void put_write(struct source *s, struct stream *t)
 /* Tag access and an insertion, for n pages one behind the other. */
 static void put_inserts(struct source *s, struct stream *t, unsigned n)
 {
-    unsigned strand = mostly(s, 4), side = mostly(s, 2), flags = mostly(s, 4), context = mostly(s, 3);
+    unsigned strand = mostly(s, T1MMU_STRANDS), side = mostly(s, T1MMU_SIDES), flags = mostly(s, 4), context = mostly(s, 3);
     uint64_t first = address(s), word = entry_word(s);
     for (unsigned i = 0; i < n; i++) {
         put(t, T1MMU_WRITE);
@@ -125,7 +125,7 @@ static void put_inserts(struct source *s, struct stream *t, unsigned n)
 
 static void put_access(struct source *s, struct stream *t)
 {
-    unsigned strand = mostly(s, 4), kind = mostly(s, 5);
+    unsigned strand = mostly(s, T1MMU_STRANDS), kind = mostly(s, T1MMU_NONFAULTING_LOAD + 1);
     put(t, T1MMU_ACCESS);
     put(t, strand);
     put(t, kind);
@@ -139,8 +139,8 @@ static void put_other(struct source *s, struct stream *t, unsigned command)
 {
     put(t, command);
     if (command != T1MMU_INVALIDATE)
-        put(t, mostly(s, 4));
-    put(t, command == T1MMU_READ ? draw(s) % 27 : mostly(s, 2));
+        put(t, mostly(s, T1MMU_STRANDS));
+    put(t, command == T1MMU_READ ? draw(s) % (T1MMU_REGISTERS + 1) : mostly(s, T1MMU_SIDES));
     if (command == T1MMU_DEMAP_PAGE || command == T1MMU_DEMAP_CONTEXT)
         put(t, mostly(s, 3));
     if (command == T1MMU_DEMAP_PAGE) {
@@ -227,13 +227,25 @@ static void judge_answer(unsigned command, const uint8_t *a)
 }
 
 /* The bytes of each command, by its first byte. */
-static const uint8_t width[10] = {0, 11, 12, 13, 4, 3, 2, 13, 3, 3};
+static const uint8_t width[T1MMU_POINTERS + 1] = {
+    [T1MMU_WRITE] = T1MMU_WRITE_BYTES,
+    [T1MMU_INSERT] = T1MMU_INSERT_BYTES,
+    [T1MMU_DEMAP_PAGE] = T1MMU_DEMAP_PAGE_BYTES,
+    [T1MMU_DEMAP_CONTEXT] = T1MMU_DEMAP_CONTEXT_BYTES,
+    [T1MMU_DEMAP_ALL] = T1MMU_DEMAP_ALL_BYTES,
+    [T1MMU_INVALIDATE] = T1MMU_INVALIDATE_BYTES,
+    [T1MMU_ACCESS] = T1MMU_ACCESS_BYTES,
+    [T1MMU_READ] = T1MMU_READ_BYTES,
+    [T1MMU_POINTERS] = T1MMU_POINTERS_BYTES,
+};
+
+static int known_command(unsigned byte) { return byte < sizeof width && width[byte] > 0; }
 
 static void judge_answers(size_t answered, size_t taken)
 {
     size_t at = 0;
     for (size_t i = 0; i < answered; i++) {
-        HOLDS(at < input.length && 1 <= input.bytes[at] && input.bytes[at] <= 9);
+        HOLDS(at < input.length && known_command(input.bytes[at]));
         judge_answer(input.bytes[at], output.bytes + i * T1MMU_ANSWER_BYTES);
         at += width[input.bytes[at]];
     }
@@ -256,7 +268,7 @@ static unsigned stop_at(size_t taken, size_t answered)
     if (taken == input.length)
         return T1MMU_END;
     unsigned command = input.bytes[taken];
-    if (command < 1 || 9 < command)
+    if (!known_command(command))
         return T1MMU_STOP_UNKNOWN;
     if (input.length - taken < width[command])
         return T1MMU_STOP_INCOMPLETE;
