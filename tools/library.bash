@@ -1,4 +1,5 @@
 # Sourced at the repository's top by all that links the library: it is built here and nowhere else.
+set -o pipefail
 
 # need TOOL ..: ends with what is missing, and where it comes from.
 need() {
@@ -7,8 +8,8 @@ need() {
         if command -v "$tool" >/dev/null; then continue; fi
         missing=1
         case $tool in
-        rt) echo "missing: rt, the Rattle toolchain's command; put the toolchain's bin folder into PATH" ;;
-        cargo) echo "missing: cargo, which comes with Rust (https://rustup.rs, or Debian's package cargo)" ;;
+        rt) echo "missing: rt, the command of the Rattle toolchain; the toolchain's bin folder has to be in PATH" ;;
+        cargo) echo "missing: cargo, which comes with Rust (rustup.rs, or Debian's package cargo)" ;;
         *) echo "missing: $tool (Debian's package $tool)" ;;
         esac >&2
     done
@@ -50,18 +51,19 @@ tell_progress() { # MARK NAME ..
 
 # prove NAME ..: rt check, which is silent for minutes, with a line for each crate that is not proved yet.
 prove() {
-    local log=target/library/check.log
+    local log=target/library/check.log mark=target/library/begun crates
     need rt
     mkdir -p target/library
-    : >"$log.begun"
-    # shellcheck disable=SC2046
-    rt check "$@" 2>&1 | tee "$log" | tell_progress "$log.begun" $(crates_of "$@") || { tail -n 20 "$log" >&2; exit 1; }
+    mapfile -t crates < <(crates_of "$@")
+    : >"$mark"
+    rt check "$@" 2>&1 | tee "$log" | tell_progress "$mark" "${crates[@]}" || { tail -n 20 "$log" >&2; exit 1; }
 }
 
 # need_library [PROGRAM ..]: the folder in T1MMU_LIB has a libt1mmu.a that is built; where it is not set, one is proved and built.
 # Leaves T1MMU_LIB set, for cargo's build scripts too, and the archive in `library`. The programs are proved and built as well.
 need_library() {
     if [ -n "${T1MMU_LIB:-}" ]; then
+        [ -f "$T1MMU_LIB/libt1mmu.a" ] || { echo "missing: libt1mmu.a in $T1MMU_LIB, which T1MMU_LIB names" >&2; exit 1; }
         T1MMU_LIB=$(realpath "$T1MMU_LIB")
         [ $# = 0 ] || prove "$@"
     else
@@ -74,6 +76,5 @@ need_library() {
         fi
     fi
     library=$T1MMU_LIB/libt1mmu.a
-    [ -f "$library" ] || { echo "missing: $library; T1MMU_LIB names the folder that it is in" >&2; exit 1; }
     export T1MMU_LIB
 }
