@@ -99,6 +99,8 @@ static void constants(void)
     expect(t1mmu_version() == T1MMU_VERSION, "version", 0);
     expect(t1mmu_state_words() == WORDS, "state words", 0);
     expect(T1MMU_SLOT_AT(T1MMU_SIDES, 0) == WORDS, "the words behind the last slot", 0);
+    expect(T1MMU_TSB_BASE_OF(0, 1, 0) == 10 && T1MMU_TSB_BASE_OF(1, 1, 1) == 15, "TSB base registers", 0);
+    expect(T1MMU_TSB_CONFIGURATION_OF(0, 1) == 17 && T1MMU_TSB_CONFIGURATION_OF(1, 1) == 19, "TSB configuration registers", 0);
     expect(sizeof(struct t1mmu_report) == 24 && offsetof(struct t1mmu_report, stop) == 16, "layout of the report", 0);
     expect(sizeof(struct t1mmu_tte) == 104 && offsetof(struct t1mmu_tte, size) == 96, "layout of the fields", 0);
 }
