@@ -118,7 +118,7 @@ enum t1mmu_page { T1MMU_8K = 0, T1MMU_64K = 1, T1MMU_4M = 3, T1MMU_256M = 5 };
 enum t1mmu_answer {
     T1MMU_DONE = 0,      /* first value, for 0x03 to 0x05: the count of entries removed */
     T1MMU_PHYSICAL = 1,  /* a: T1MMU_CP + T1MMU_E + T1MMU_IE of the page; first value: the physical address */
-    T1MMU_TRAP = 2,      /* a: enum t1mmu_trap; b: its fault type; first value: the address, masked or not; second: tag access as the trap left it */
+    T1MMU_TRAP = 2,      /* a: enum t1mmu_trap; b: fault type; first value: the address as it was used; second: tag access as the trap left it */
     T1MMU_VALUE = 3,     /* first value: the register; or both values: the pointers of ps0 and ps1 */
     T1MMU_DISPLACED = 4, /* b: its partition; c: 1 if it is real; first value: its page and context, as in tag access; second: its word */
     T1MMU_REFUSED = 5    /* a: enum t1mmu_refusal; the command changed nothing */

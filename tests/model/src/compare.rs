@@ -88,14 +88,19 @@ fn first_difference<T: PartialEq + std::fmt::LowerHex>(what: &str, model: &[T], 
 
 /// Where a state word stands, in words.
 fn place(at: isize) -> String {
-    let cells = (0..STRANDS).flat_map(|strand| (0..CELLS as u8).map(move |n| (cell_at(strand, n), format!("strand {strand} register {n}"))));
-    let slots = (0..SIDES).flat_map(|side| (0..SLOTS).map(move |slot| (side, slot)));
-    let words = slots.flat_map(|(side, slot)| {
-        let names: [&str; SLOT_WORDS] = ["owner", "page", "word", "flags"];
-        names.into_iter().enumerate().map(move |(i, name)| (slot_at(side, slot) + i, format!("side {side} slot {slot} {name}")))
-    });
-    let found = cells.chain(words).find(|(i, _)| *i as isize == at);
-    found.map_or("outside the state".to_string(), |(_, name)| name)
+    const NAMES: [&str; SLOT_WORDS] = ["owner", "page", "word", "flags"];
+    let is = |i: usize| i as isize == at;
+    for strand in 0..STRANDS {
+        if let Some(register) = (0..CELLS as u8).find(|n| is(cell_at(strand, *n))) {
+            return format!("strand {strand} register {register}");
+        }
+    }
+    for (side, slot) in (0..SIDES).flat_map(|side| (0..SLOTS).map(move |slot| (side, slot))) {
+        if let Some(word) = (0..SLOT_WORDS).find(|w| is(slot_at(side, slot) + w)) {
+            return format!("side {side} slot {slot} {}", NAMES[word]);
+        }
+    }
+    "outside the state".to_string()
 }
 
 fn compare_run(words: &mut Vec<u64>, run: &Run, r: &mut Random, coverage: &mut Coverage) -> Result<(Report, Vec<u8>), String> {

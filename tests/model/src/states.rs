@@ -2,7 +2,7 @@
 use crate::generate::Scene;
 use crate::model::{in_range, known, page_size, word_allowed, Entry, Model};
 use crate::random::Random;
-use t1mmu::numbers::{cell_at, slot_at, PARTITION, REGISTERS, SIDES, SLOTS, SLOT_WORDS, STATE_WORDS, STRANDS};
+use t1mmu::numbers::{cell_at, slot_at, CELLS, PARTITION, REGISTERS, SIDES, SLOTS, SLOT_WORDS, STATE_WORDS, STRANDS};
 
 #[derive(Clone, Copy, Debug, PartialEq, Eq)]
 pub enum Start {
@@ -121,7 +121,11 @@ pub fn words(r: &mut Random, scene: &Scene, start: Start) -> Vec<u64> {
             words[at..at + SLOT_WORDS].fill(0);
             words[at + r.below(SLOT_WORDS as u64) as usize] = 1 << r.below(63);
         }
-        Start::RandomCell => words[r.below(cell_at(STRANDS, 0) as u64) as usize] = r.pick(&[1, 2, 3, 4, 7, 8, 16, 0x101, 0x201, 0x1000, 8191, 8192]),
+        Start::RandomCell => {
+            let value = r.pick(&[1, 2, 3, 4, 7, 8, 16, 0x101, 0x201, 0x1000, 8191, 8192]);
+            let n = r.below((STRANDS * CELLS) as u64) as usize;
+            words[cell_at(n / CELLS, (n % CELLS) as u8)] = value;
+        }
         Start::BadPage => {
             let at = a_slot(r);
             words[at + 1] ^= r.pick(&[1, 0x1000, 0x2000, 0x8000, 0x10000, 0x20_0000, 0x40_0000, 0x800_0000, 1 << 28, 1 << 46, 1 << 47, 1 << 63]);
