@@ -32,17 +32,19 @@ crates_of() {
 }
 
 # While rt writes, on standard input, says which crate's proof has begun and how many there are.
-# rt opens target/log/NAME.out as it comes to a crate, and has a stamp for one that is proved already.
+# rt opens target/log/NAME.out as it comes to a crate, and then removes its stamp, or says that it is proved already.
 tell_progress() { # MARK NAME ..
-    local mark=$1 line got crate begun=' ' n=0
+    local mark=$1 got crate out begun=' ' n=0
     shift
     while :; do
         got=0
-        IFS= read -r -t 0.3 line || got=$?
+        read -r -t 0.3 _ || got=$?
         # above 128 nothing came for a while; else it is the end
         if [ "$got" -gt 0 ] && [ "$got" -le 128 ]; then return; fi
         for crate; do
-            if [[ $begun = *" $crate "* ]] || [ ! "target/log/$crate.out" -nt "$mark" ]; then continue; fi
+            out=target/log/$crate.out
+            if [[ $begun = *" $crate "* ]] || [ ! "$out" -nt "$mark" ]; then continue; fi
+            if [ -e "target/stamp/$crate" ] && [ ! -s "$out" ]; then continue; fi
             begun+="$crate " n=$((n + 1))
             if [ ! -e "target/stamp/$crate" ]; then echo "proving $crate ($n of $#) .." >&2; fi
         done
