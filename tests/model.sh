@@ -1,5 +1,6 @@
 #!/usr/bin/env bash
-# The second model and the ledger beside the proved library; then broken copies of the model, each of which has to be caught.
+# The second model, the ledger and the stream program beside the proved library, on hand-checked runs, sweeps and random streams; then
+# broken copies of the model, each of which has to be caught.
 # A longer soak: target/tests/model/release/model --streams 1000000 --seed 7
 set -euo pipefail
 cd "$(dirname "$0")/.."

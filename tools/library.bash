@@ -32,7 +32,7 @@ crates_of() {
 }
 
 # While rt writes, on standard input, says which crate's proof has begun and how many there are.
-# rt opens target/log/NAME.out as it comes to a crate, and then removes its stamp, or says that it is proved already.
+# rt opens target/log/NAME.out as it comes to a crate, removes its stamp where there is something to prove, and writes at the end.
 tell_progress() { # MARK NAME ..
     local mark=$1 got crate out begun=' ' n=0
     shift
@@ -44,11 +44,18 @@ tell_progress() { # MARK NAME ..
         for crate; do
             out=target/log/$crate.out
             if [[ $begun = *" $crate "* ]] || [ ! "$out" -nt "$mark" ]; then continue; fi
-            if [ -e "target/stamp/$crate" ] && [ ! -s "$out" ]; then continue; fi
+            if [ ! -s "$out" ] && [ -e "target/stamp/$crate" ]; then continue; fi
             begun+="$crate " n=$((n + 1))
-            if [ ! -e "target/stamp/$crate" ]; then echo "proving $crate ($n of $#) .." >&2; fi
+            if [ ! -s "$out" ]; then echo "proving $crate ($n of $#) .." >&2; fi
         done
     done
+}
+
+# What a command that failed wrote last.
+tell_failure() { # LOG
+    tail -n 20 "$1" >&2
+    echo "failed; all of it is in $1" >&2
+    exit 1
 }
 
 # prove NAME ..: rt check, which is silent for minutes, with a line for each crate that is not proved yet.
@@ -58,7 +65,7 @@ prove() {
     mkdir -p target/library
     mapfile -t crates < <(crates_of "$@")
     : >"$mark"
-    rt check "$@" 2>&1 | tee "$log" | tell_progress "$mark" "${crates[@]}" || { tail -n 20 "$log" >&2; exit 1; }
+    rt check "$@" 2>&1 | tee "$log" | tell_progress "$mark" "${crates[@]}" || tell_failure "$log"
 }
 
 # need_library [PROGRAM ..]: the folder in T1MMU_LIB has a libt1mmu.a that is built; where it is not set, one is proved and built.
@@ -74,7 +81,7 @@ need_library() {
         prove t1mmu "$@"
         if [ ! "$T1MMU_LIB/libt1mmu.a" -nt target/stamp/t1mmu ]; then
             echo "building libt1mmu.a .." >&2
-            rt staticlib t1mmu >"$log" 2>&1 || { tail -n 20 "$log" >&2; exit 1; }
+            rt staticlib t1mmu >"$log" 2>&1 || tell_failure "$log"
         fi
     fi
     library=$T1MMU_LIB/libt1mmu.a
