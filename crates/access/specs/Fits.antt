@@ -1,6 +1,11 @@
 -- What an access picks from, and what a trap's registers have room for: a byte of fault type, 13 bits of context.
 -- Assumes nothing.
-use Prim.Native.Nat.{_<_}
+use Prim.Native.Nat.{ℕ, _<_}
+use mathlib.Core.Path.{_≡_}
+use mathlib.Core.Bool.{true}
+use mathlib.Core.List.{List}
+use Rattle.machine.specs.Registers.{registersSound}
+use Rattle.machine.specs.State.{stateIn}
 use Rattle.machine.specs.Access.{trapFault}
 use Rattle.machine.specs.declared.Access.{Access}
 use Rattle.machine.specs.declared.Trap.{Trap}
@@ -11,11 +16,14 @@ use Rattle.machine.specs.declared.Prepared.the-variants.{Stopped, Bypass, Looku
 use Rattle.machine.specs.declared.Judged.{Judged}
 use Rattle.machine.specs.declared.Judged.the-variants.{Faulted, Translated}
 
--- an access of a strand and a side that there are, with a context of 13 bits
+-- an access of a strand and a side that there are
 pub record AccessFits (a : Access) : Type 0 where
   pub strands : a .strand < 4
   pub sides : a .side < 2
-  pub contexts : a .context < 8192
+
+-- registers that hold what they may, and so contexts of 13 bits
+abbrev pub RegistersFit : List ℕ → Type 0
+RegistersFit words = registersSound (stateIn words .registers) ≡ true
 
 abbrev pub FaultFits : Trap → Type 0
 FaultFits t = trapFault t < 256

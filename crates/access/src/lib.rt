@@ -12,7 +12,7 @@ ghost use Rattle.machine.specs.Access.{addressUsed, accessOf, exception, trapTa
 ghost use Rattle.machine.specs.declared.Prepared.the-variants.{Lookup};
 ghost use Rattle.machine.specs.declared.Tag.the-variants.{Kept};
 ghost use Rattle.access.specs.Faults.{faultless};
-ghost use Rattle.access.specs.Fits.{AccessFits, FaultFits, TagFits, StopFits, JudgedFits};
+ghost use Rattle.access.specs.Fits.{AccessFits, RegistersFit, FaultFits, TagFits, StopFits, JudgedFits};
 use laws::Found;
 use machine::Access;
 use machine::Answer;
@@ -74,7 +74,6 @@ pub fn access_of(
         side: operands::access_side(kind),
         selector,
         size,
-        context: operands::selected_context(state, strand, selector),
         used,
     }
 }
@@ -91,12 +90,12 @@ fn exception_of(kind: u8, fault: u64) -> Trap
 
 // The context that a trap leaves in tag access: the one selected; 0 while translation is off.
 fn tag_written(state: &[u64], a: Access) -> Tag
-    requires { ⌜ Lent (now state) × AccessFits a ⌝ }
+    requires { ⌜ Lent (now state) × AccessFits a × RegistersFit (now state) ⌝ }
     ensures tag { λ r. ⌜ r ≡ trapTag (stateIn (now (state .entry)) .registers) a ⌝ }
     ensures fits { λ r. ⌜ TagFits r ⌝ }
 {
     if translation_on(state, a) {
-        return Tag::Written(a.context);
+        return Tag::Written(operands::selected_context(state, a.strand, a.selector));
     }
     Tag::Written(0)
 }
@@ -117,8 +116,9 @@ fn key_of_access(state: &[u64], a: Access) -> Key
 {
     let on = translation_on(state, a);
     let partition = state::read_register(state, a.strand, machine::PARTITION);
+    let context = operands::selected_context(state, a.strand, a.selector);
     let used = a.used;
-    operands::key_for(!on, partition, a.context, used)
+    operands::key_for(!on, partition, context, used)
 }
 
 // Step 1: whether the address is aligned.
@@ -138,7 +138,7 @@ fn is_user_nucleus(mode: u64, kind: u8, selector: u8) -> bool
 
 // Steps 1 to 4.
 fn prepare_access(state: &[u64], a: Access) -> Prepared
-    requires { ⌜ Lent (now state) × AccessFits a × (a .size < 4) ⌝ }
+    requires { ⌜ Lent (now state) × AccessFits a × (a .size < 4) × RegistersFit (now state) ⌝ }
     ensures prepared { λ r. ⌜ r ≡ prepare (stateIn (now (state .entry)) .registers) a ⌝ }
     ensures fits { λ r. ⌜ StopFits r ⌝ }
 {
@@ -301,7 +301,7 @@ fn take_trap(state: &mut [u64], a: Access, trap: Trap, tag: Tag) -> Answer
 
 // A trap that writes tag access.
 fn take_tagged(state: &mut [u64], a: Access, trap: Trap) -> Answer
-    requires { ⌜ Lent (now state) × AccessFits a × FaultFits trap ⌝ }
+    requires { ⌜ Lent (now state) × AccessFits a × FaultFits trap × RegistersFit (now state) ⌝ }
     ensures { λ r. ⌜ Did (now (state .exit)) r
         (trapTo (stateIn (now (state .entry))) a trap (trapTag (stateIn (now (state .entry)) .registers) a)) ⌝ }
 {
@@ -311,7 +311,7 @@ fn take_tagged(state: &mut [u64], a: Access, trap: Trap) -> Answer
 
 // A miss traps and sets no used bit.
 fn settle_miss(state: &mut [u64], a: Access) -> Answer
-    requires { ⌜ Lent (now state) × AccessFits a ⌝ }
+    requires { ⌜ Lent (now state) × AccessFits a × RegistersFit (now state) ⌝ }
     ensures { λ r. ⌜ Did (now (state .exit)) r (settleFound (stateIn (now (state .entry))) a Nothing) ⌝ }
 {
     let trap = miss_of(state, a);
@@ -320,7 +320,7 @@ fn settle_miss(state: &mut [u64], a: Access) -> Answer
 
 // A hit has its used bit set, and is judged.
 fn settle_hit(state: &mut [u64], a: Access, i: usize) -> Answer
-    requires { ⌜ Lent (now state) × AccessFits a × (i < 64) ⌝ }
+    requires { ⌜ Lent (now state) × AccessFits a × (i < 64) × RegistersFit (now state) ⌝ }
     ensures { λ r. ⌜ Did (now (state .exit)) r (settleFound (stateIn (now (state .entry))) a (At i)) ⌝ }
 {
     let judged = judge_word(state, a, state::slot_of(state, a.side, i).word);

@@ -48,7 +48,6 @@ accessFor file q = record {
   side = kindSide (q .kind);
   selector = q .selector;
   size = q .size;
-  context = selected file (q .strand) (q .selector);
   used = record { 0 = q .used };
 }
 

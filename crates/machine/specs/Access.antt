@@ -33,7 +33,7 @@ use Rattle.machine.specs.declared.Answer.the-variants as answer
 abbrev pub addressUsed : List ℕ → ℕ → VirtualAddress → VirtualAddress
 addressUsed file strand a = record { 0 = cond (eqb (addressMask file strand) 1 && ltb (mode file strand) 2) (a .0 % 2 ^ 32) (a .0) }
 
--- an access by its operands: the side of its kind, the context that the selector picks, and the address used
+-- an access by its operands: the side of its kind, and the address used
 abbrev pub accessOf : List ℕ → ℕ → ℕ → ℕ → ℕ → VirtualAddress → Access
 accessOf file strand kind selector size address = record {
   strand = strand;
@@ -41,7 +41,6 @@ accessOf file strand kind selector size address = record {
   side = kindSide kind;
   selector = selector;
   size = size;
-  context = selected file strand selector;
   used = addressUsed file strand address;
 }
 
@@ -52,7 +51,7 @@ exception kind fault = cond (eqb kind 0) (trap.InstructionAccessException fault)
 
 -- the context that a trap leaves in tag access ("Access", last paragraph): the one selected; 0 while translation is off
 abbrev pub trapTag : List ℕ → Access → Tag
-trapTag file a = effect.Written (cond (translates file (a .strand) (a .side)) (a .context) 0)
+trapTag file a = effect.Written (cond (translates file (a .strand) (a .side)) (selected file (a .strand) (a .selector)) 0)
 
 -- step 3: the attributes of a bypass go by bit 39: cp alone (1) where it is 0, e alone (2) where it is 1
 abbrev pub bypassTo : VirtualAddress → Translation
@@ -60,7 +59,8 @@ bypassTo a = record { address = bypassed a; attributes = cond (eqb (bits 39 1 (a
 
 -- step 5: with translation off the key is real, and asks for no context
 abbrev pub lookupKey : List ℕ → Access → Key
-lookupKey file a = keyOf (not (translates file (a .strand) (a .side))) (partition file (a .strand)) (a .context) (a .used)
+lookupKey file a =
+    keyOf (not (translates file (a .strand) (a .side))) (partition file (a .strand)) (selected file (a .strand) (a .selector)) (a .used)
 
 unfoldable pub prepare : List ℕ → Access → Prepared
 prepare file a =

@@ -24,10 +24,10 @@ use Rattle.machine.specs.declared.Translation.{Translation}
 
 -- a store of 8 bytes by the primary context, and a load
 abbrev pub store : ℕ → Access
-store address = record { strand = 0; kind = 2; side = 1; selector = 0; size = 3; context = 0; used = record { 0 = address } }
+store address = record { strand = 0; kind = 2; side = 1; selector = 0; size = 3; used = record { 0 = address } }
 
 abbrev pub load : ℕ → Access
-load address = record { strand = 0; kind = 1; side = 1; selector = 0; size = 3; context = 0; used = record { 0 = address } }
+load address = record { strand = 0; kind = 1; side = 1; selector = 0; size = 3; used = record { 0 = address } }
 
 pub record Starred : Type 0 where
   -- first example: the last address before the hole, the first and the last in it, the first behind it

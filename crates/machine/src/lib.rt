@@ -224,14 +224,13 @@ pub enum Trap {
     DataProtection,
 }
 
-// The operands of an access with what they pick: its side, the selected context, and the address used.
+// The operands of an access, with its side and the address used.
 pub struct Access {
     pub strand: u8,
     pub kind: u8,
     pub side: u8,
     pub selector: u8,
     pub size: u8,
-    pub context: u64,
     pub used: VirtualAddress,
 }
 

@@ -1,6 +1,6 @@
 -- What the code that acts may rely on: the operands of a command that passed its questions, and an entry displaced from a sound side.
 -- Assumes nothing.
-use Prim.Native.Nat.{ℕ, _<_}
+use Prim.Native.Nat.{_<_}
 use mathlib.Core.Path.{_≡_}
 use mathlib.Core.Bool.{true}
 use mathlib.Core.List.{List}
@@ -12,10 +12,8 @@ use Rattle.machine.specs.Slots.{isLive}
 use Rattle.machine.specs.Insertion.{candidate, placed}
 use Rattle.machine.specs.Sound.{slotSound, sideSound}
 use Rattle.machine.specs.Registers.{known, writable}
-use Rattle.machine.specs.State.{counts, State, stateIn}
+use Rattle.machine.specs.State.{State}
 use Rattle.machine.specs.Questions.{asked, verdict}
-use Rattle.machine.specs.Access.{accessOf}
-use Rattle.machine.specs.declared.VirtualAddress.{VirtualAddress}
 use Rattle.machine.specs.declared.Slot.{Slot}
 use Rattle.machine.specs.declared.Placed.{Placed}
 use Rattle.machine.specs.declared.Placed.the-variants.{Done, Displaced, Refused}
@@ -26,9 +24,7 @@ use Rattle.machine.proofs.Insertion.{PlacedSays, placed-says}
 use Rattle.machine.proofs.Sound.{live-parts, sound-slot}
 use Rattle.machine.proofs.Sides.{aligned}
 use Rattle.machine.proofs.Commands.{range-fits}
-use Rattle.machine.proofs.State.{passed-asked, known-below, writable-below, kind-side, strand-sound, sound-registers}
-use Rattle.state.specs.Calls.{SoundIn}
-use Rattle.access.specs.Fits.{AccessFits}
+use Rattle.machine.proofs.State.{passed-asked, known-below, writable-below}
 use Rattle.mmu.specs.Fits.{PlaceFits, OperandsFit}
 
 ruleset conj = (and-left, and-right, eqb-true, ltb-true)
@@ -64,15 +60,6 @@ passed-fit u (command.Read strand number) v =
 passed-fit u (command.Pointers strand side) v =
     let q = passed-asked u (command.Pointers strand side) v in
     (search conj, search conj)
-
--- an access of a sound state's strand is one that the unit has
-pub access-fits : (words : List ℕ) (strand kind selector size : ℕ) (address : VirtualAddress) → SoundIn words → strand < 4
-    → AccessFits (accessOf (stateIn words .registers) strand kind selector size address)
-access-fits words strand kind selector size address h s = record {
-  strands = s;
-  sides = kind-side kind;
-  contexts = strand-sound _ strand (sound-registers counts (stateIn words) h) s .contexts selector;
-}
 
 -- a page starts at a multiple of 2^13, so its context fits beside it
 pub place-fits : (new : Slot) (s : List Slot) → sideSound s ≡ true → PlaceFits (placed candidate new s)

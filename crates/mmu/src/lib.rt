@@ -23,9 +23,9 @@ fn displaced_entry(x: Slot) -> Displaced
     ensures { λ r. ⌜ r ≡ displacedOf x ⌝ }
 {
     Displaced {
-        partition: x.owner >> 14,
-        real: (x.owner >> 13) % 2 == 1,
-        place: x.page + x.owner % 0x2000,
+        partition: tlb::partition_of(x),
+        real: tlb::is_real(x),
+        place: x.page + tlb::context_of(x),
         word: x.word,
     }
 }

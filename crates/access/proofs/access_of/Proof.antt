@@ -5,7 +5,7 @@ use Rattle.access.proofs.access_of.Tie as tie
 
 returns : tie.Need-returns
 returns c =
-    rw (c .selected-context .ensures, c .before .access-side .ensures, c .before .before .used-address .ensures)
+    rw (c .access-side .ensures, c .before .used-address .ensures)
 
 pub access-of-spec : {M : Type 1} → statement M
-access-of-spec = tie.close (tie.spec (λ c κs. search needs) (λ c κs. search needs) (λ c κs. search needs) returns)
+access-of-spec = tie.close (tie.spec (λ c κs. search needs) (λ c κs. search needs) returns)

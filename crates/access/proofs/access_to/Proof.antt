@@ -2,9 +2,14 @@
 use mathlib.Core.Path.{refl, sym, _∙_}
 use borrow.Author.Needs.{needs}
 use Rattle.machine.specs.State.{counts}
-use Rattle.machine.proofs.State.{encode-state}
+use Rattle.machine.proofs.State.{encode-state, sound-registers}
 use Rattle.access.proofs.access_to.Statement.{statement}
 use Rattle.access.proofs.access_to.Tie as tie
+
+prepare-access-requires : tie.Need-prepare-access-requires
+prepare-access-requires c κs =
+    let s = c .before .before in
+    (s .pre .0, s .pre .1, s .pre .2, sound-registers counts _ (s .pre .3))
 
 take-trap-requires : tie.Need-take-trap-requires
 take-trap-requires c κs =
@@ -37,7 +42,7 @@ pub access-to-spec : {M : Type 1} → statement M
 access-to-spec =
     tie.close
     (tie.spec
-    (λ c κs. search needs)
+    prepare-access-requires
     (λ c. search needs)
     take-trap-requires
     (λ c. search needs)

@@ -5,7 +5,20 @@ use Rattle.access.proofs.key_of_access.Statement.{statement}
 use Rattle.access.proofs.key_of_access.Tie as tie
 
 returns : tie.Need-returns
-returns c = c .key-for .ensures ∙ rw (c .before .before .before .translation-on .ensures, c .before .before .read-register .ensures)
+returns c =
+    let context = c .before .before in
+    c .key-for .ensures ∙ rw (
+      context .before .before .translation-on .ensures,
+      context .before .read-register .ensures,
+      context .selected-context .ensures,
+    )
 
 pub key-of-access-spec : {M : Type 1} → statement M
-key-of-access-spec = tie.close (tie.spec (λ c κs. search needs) (λ c κs. search needs) (λ c κs. search needs) returns)
+key-of-access-spec =
+    tie.close
+    (tie.spec
+    (λ c κs. search needs)
+    (λ c κs. search needs)
+    (λ c κs. search needs)
+    (λ c κs. search needs)
+    returns)

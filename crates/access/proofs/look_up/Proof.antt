@@ -4,7 +4,8 @@ use native.Mathlib.Omega.{arith}
 use borrow.Author.Needs.{needs}
 use Rattle.laws.proofs.Walks.{found-at}
 use Rattle.machine.specs.Slots.{noSlot, answersTo, search as lookup}
-use Rattle.machine.specs.State.{State, stateIn, sideOf}
+use Rattle.machine.specs.State.{counts, State, stateIn, sideOf}
+use Rattle.machine.proofs.State.{sound-registers}
 use Rattle.state.proofs.Lent.{side-slots}
 use Rattle.access.proofs.look_up.Statement.{statement}
 use Rattle.access.proofs.look_up.Tie as tie
@@ -23,7 +24,13 @@ settle-hit-requires c κs =
     let u : State = stateIn (s .args .state .now) in
     let side = s .args .a .side in
     let i = found-at noSlot (answersTo (s .args .key)) (sideOf u side) _ (found look ∙ at .found .given .1) .0 in
-    (s .pre .0, s .pre .1, omega (arith, i, side-slots (s .args .state .now) (s .pre .0) side))
+    (s .pre .0, s .pre .1, omega (arith, i, side-slots (s .args .state .now) (s .pre .0) side), sound-registers counts u (s .pre .2))
+
+settle-miss-requires : tie.Need-settle-miss-requires
+settle-miss-requires c κs =
+    let look = c .before .before .before in
+    let s = look .before .before .before .before in
+    (s .pre .0, s .pre .1, sound-registers counts _ (s .pre .2))
 
 returns : tie.Need-returns
 returns c =
@@ -45,7 +52,7 @@ look-up-spec =
     (λ c. search needs)
     settle-hit-requires
     (λ c. search needs)
-    (λ c κs. search needs)
+    settle-miss-requires
     (λ c. search needs)
     returns
     (λ c. search needs)

@@ -35,9 +35,10 @@ verdict c = sym (c .judge-word .ensures .0 ∙ rw (c .before .slot-of .ensures))
 take-tagged-requires : tie.Need-take-tagged-requires
 take-tagged-requires c κs =
     let judged = c .before .before in
-    let judge = judged .before .before .before .before .before .before in
+    let mark = judged .before .before .before .before in
+    let judge = mark .before .before in
     let s = judge .before .before .before .before in
-    (omega arith, s .pre .1, rw (judged .judged .given .1) at (judge .judge-word .ensures .1))
+    (omega arith, s .pre .1, rw (judged .judged .given .1) at (judge .judge-word .ensures .1), rw (marked mark) (s .pre .3))
 
 returns : tie.Need-returns
 returns c =

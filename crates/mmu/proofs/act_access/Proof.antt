@@ -1,7 +1,7 @@
 -- `mmu::act_access` meets its contract: its access is one that the unit has.
 use borrow.Author.Needs.{needs}
 use Rattle.machine.specs.Step.{act}
-use Rattle.mmu.proofs.Passes.{access-fits}
+use Rattle.machine.proofs.State.{kind-side}
 use Rattle.mmu.proofs.act_access.Statement.{statement}
 use Rattle.mmu.proofs.act_access.Tie as tie
 
@@ -9,7 +9,7 @@ access-to-requires : tie.Need-access-to-requires
 access-to-requires c κs =
     let call = c .before .before in
     let s = call .before .before .before in
-    rw (call .access-of .ensures) (search needs, access-fits _ _ _ _ _ _ (s .pre .sound) (s .pre .fit .0), s .pre .fit .1, s .pre .sound)
+    rw (call .access-of .ensures) (search needs, record { strands = s .pre .fit .0; sides = kind-side (s .args .kind) }, s .pre .fit .1, s .pre .sound)
 
 returns : tie.Need-returns
 unfolding act
