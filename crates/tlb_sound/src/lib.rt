@@ -183,7 +183,10 @@ fn shared_overlaps_none(slots: &[u64], x: Slot, from: usize, shared: bool) -> bo
         × (shared ≡ false → anyOf (overlaps x) (drop from (slotsOf (now slots))) ≡ false) ⌝ }
     ensures { λ r. ⌜ r ≡ not (anyOf (overlaps x) (drop from (slotsOf (now (slots .entry))))) ⌝ }
 {
-    !shared || clear_of_later(slots, x, from)
+    if shared {
+        return clear_of_later(slots, x, from);
+    }
+    true
 }
 
 // Whether no two of the slots, each sound by itself, overlap: from the last slot to the first. No size code is above the one given. A bucket
