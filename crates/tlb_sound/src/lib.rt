@@ -61,9 +61,19 @@ fn digest_of(slots: &[u64]) -> Digest
 fn fields_fit(d: Digest) -> bool
     ensures { λ r. ⌜ r ≡ fieldsFit d ⌝ }
 {
-    d.owners < 0x2_0000
-        && (d.pages < 0x1_0000_0000_0000
-            && (d.pages % 0x2000 == 0 && ((d.words >> 40) % 0x1_0000 == 0 && d.flags < 4)))
+    if 0x2_0000 <= d.owners {
+        return false;
+    }
+    if 0x1_0000_0000_0000 <= d.pages {
+        return false;
+    }
+    if d.pages % 0x2000 != 0 {
+        return false;
+    }
+    if (d.words >> 40) % 0x1_0000 != 0 {
+        return false;
+    }
+    d.flags < 4
 }
 
 // Whether every slot is live and virtual and has size code 0: there is nothing more to ask of one whose fields fit.
@@ -183,10 +193,7 @@ fn shared_overlaps_none(slots: &[u64], x: Slot, from: usize, shared: bool) -> bo
         × (shared ≡ false → anyOf (overlaps x) (drop from (slotsOf (now slots))) ≡ false) ⌝ }
     ensures { λ r. ⌜ r ≡ not (anyOf (overlaps x) (drop from (slotsOf (now (slots .entry))))) ⌝ }
 {
-    if shared {
-        return clear_of_later(slots, x, from);
-    }
-    true
+    !shared || clear_of_later(slots, x, from)
 }
 
 // Whether no two of the slots, each sound by itself, overlap: from the last slot to the first. No size code is above the one given. A bucket
