@@ -28,7 +28,10 @@ use Rattle.machine.specs.declared.VirtualAddress.{VirtualAddress}
 use Rattle.machine.specs.State.{Counts, slotCount, State, sideOf, withSide}
 use Rattle.machine.specs.Step.{placedAnswer, demap, act}
 use Rattle.machine.specs.Stream.{Bytes, answerBytes}
-use Rattle.machine.specs.Ledger.{Entry, Ledger, Name, nameIn, isNamed, line, lacksSlot, overlap, unlocked, Written, inserts, demaps, withEntries, isAt, inContext, contextPicked, translationOn, Asked, askedSide, earlySteps, looksUp, foundBy, misses, lookedUp, accesses, pointers, does}
+use Rattle.machine.specs.Ledger.{Entry, Ledger, Name, nameIn, isNamed, line, lacksSlot, overlap, unlocked}
+use Rattle.machine.specs.Ledger.{Written, inserts, demaps, withEntries, isAt, inContext, contextPicked}
+use Rattle.machine.specs.Ledger.{translationOn, Asked, askedSide, earlySteps, looksUp, foundBy, misses, lookedUp}
+use Rattle.machine.specs.Ledger.{accesses, pointers, does}
 use Rattle.machine.specs.Places.{Reference, emptiedWhere, usedWhere, each, accessed, moved}
 use Rattle.machine.specs.Demand3.{InsertionSays, AccessSays}
 use Rattle.machine.specs.Frame.{entryIn}
@@ -47,12 +50,16 @@ use Rattle.machine.specs.declared.Answer.the-variants as answer
 use Rattle.machine.specs.declared.Verdict.the-variants.{Passed}
 use Rattle.machine.proofs.State.{strand-sound, kind-side, passed-asked}
 use Rattle.machine.proofs.Questions.{context-picked, write-bytes, write-alike, read-bytes, pointers-bytes}
-use Rattle.machine.proofs.Looks.{StepAlike, accessFor, Early, looks, ends, prepare-alike, key-alike, key-small, miss-alike, hit-alike, miss-not-hit, access-alike, fit-none, used-alike}
+use Rattle.machine.proofs.Looks.{StepAlike, accessFor, Early, looks, ends, prepare-alike, key-alike, key-small}
+use Rattle.machine.proofs.Looks.{miss-alike, hit-alike, miss-not-hit, access-alike, fit-none, used-alike}
 use Rattle.machine.proofs.Used.{SameSlots, found-slots}
 use Rattle.machine.proofs.Bytes.{line-answer, name-back, line-kind}
 use Rattle.machine.proofs.Alike.{SideAlike, Alike, placeIn, PlacesAlike, ReferenceAlike}
 use Rattle.machine.proofs.Places.{displaced-way, emptied-side, used-side, unused-side, places-each, places-same}
-use Rattle.machine.proofs.Sides.{SameTest, everything-test, page-test, context-test, partition-test, key-test, aligned, alike-nothing, alike-found, alike-one, alike-used, alike-count, alike-removed, alike-emptied, nameOf, named-self, DisplacedSays, alike-lacks, alike-done, alike-displaced, inserts-refused, inserts-done, inserts-displaced}
+use Rattle.machine.proofs.Sides.{SameTest, everything-test, page-test, context-test, partition-test, key-test}
+use Rattle.machine.proofs.Sides.{aligned, alike-nothing, alike-found, alike-one, alike-used, alike-count}
+use Rattle.machine.proofs.Sides.{alike-removed, alike-emptied, nameOf, named-self, DisplacedSays, alike-lacks}
+use Rattle.machine.proofs.Sides.{alike-done, alike-displaced, inserts-refused, inserts-done, inserts-displaced}
 
 -- ---- a side of two that are alike
 pub alike-side : {n : Counts} {u : State} {l : Ledger} (side : ℕ) → side < 2 → Alike n u l → SideAlike (slotCount n side) (sideOf u side) (l .entries side)
@@ -129,7 +136,8 @@ insertion-says {n} {s} {m} h new k l = go (placed candidate new s) refl
     go Done f = record {
       displaced = (λ z. absurd (omega arith), λ z. clash (and-both _ _ (eq-eqb _ _ (z .0)) (eq-eqb _ _ (z .1))) (alike-done h new k l f .0));
       named = λ z. absurd (omega arith);
-      refused = (λ z. absurd (omega (arith, answer-kind z, line-kind 5 13 0 0 0 0)), λ z. clash (and-both _ _ (eq-eqb _ _ (z .0)) (eq-eqb _ _ (z .2))) (alike-done h new k l f .0));
+      refused = (λ z. absurd (omega (arith, answer-kind z, line-kind 5 13 0 0 0 0)), λ z. clash
+          (and-both _ _ (eq-eqb _ _ (z .0)) (eq-eqb _ _ (z .2))) (alike-done h new k l f .0));
     }
     go (Displaced x) f =
         let w : DisplacedSays n new s m x = alike-displaced h new k l x f in
@@ -265,13 +273,15 @@ module _ {n : Counts} {u : State} {l : Ledger} (h : Alike n u l) where
   looked a = alike-side (kindSide (a .kind)) (kind-side (a .kind)) h
 
   key-same : (a : Asked) (s : a .strand < 4) (c : a .selector < 3)
-      → SameTest (answersTo (keyOf (not (translationOn l a)) (l .registers (a .strand) 0) (contextPicked l (a .strand) (a .selector)) (record { 0 = a .used }))) (foundBy l a)
+      → SameTest (answersTo (keyOf (not (translationOn l a)) (l .registers (a .strand) 0) (contextPicked l (a .strand) (a .selector))
+      (record { 0 = a .used }))) (foundBy l a)
   key-same a s c = key-test _ (not (translationOn l a)) _ (record { 0 = a .used }) (key-small h a s c .0) (key-small h a s c .1)
 
   looked-one : (a : Asked) (s : a .strand < 4) (c : a .selector < 3) → count (foundBy l a) (l .entries (kindSide (a .kind))) ≤ 1
   looked-one a s c = alike-one (looked a) _ (not (translationOn l a)) _ (record { 0 = a .used }) (key-small h a s c .0) (key-small h a s c .1)
 
-  found-alike : (a : Asked) (s : a .strand < 4) (c : a .selector < 3) (f : Found) → first (answersTo (lookupKey (u .registers) (accessFor (u .registers) a))) (sideOf u (kindSide (a .kind))) ≡ f
+  found-alike : (a : Asked) (s : a .strand < 4) (c : a .selector < 3) (f : Found)
+      → first (answersTo (lookupKey (u .registers) (accessFor (u .registers) a))) (sideOf u (kindSide (a .kind))) ≡ f
       → StepAlike n (settleFound u (accessFor (u .registers) a) f) (lookedUp l a (find (foundBy l a) (l .entries (kindSide (a .kind)))))
   found-alike a s c Nothing e = rw (alike-nothing (looked a) (key-same a s c) (rw (key-alike h a s c) at e)) (miss-alike h a s c)
   found-alike a s c (At i) e =
@@ -345,12 +355,14 @@ module _ {n : Counts} {u : State} {k : Reference} (h : ReferenceAlike n u k) whe
       let t = key-same (h .ledger) a s c in
       places-same _ (places-each (h .places) side (kind-side (a .kind)) (setUsed i (sideOf u side)) (usedWhere (foundBy l a))
       (used-side t (sideOf u side) i (looked (h .ledger) a .sound)
-      (omega (arith, alike-count (looked (h .ledger) a) t, looked-one (h .ledger) a s c)) (rw (key-alike (h .ledger) a s c) at e))) (found-slots u (accessFor (u .registers) a) i)
+      (omega (arith, alike-count (looked (h .ledger) a) t, looked-one (h .ledger) a s c)) (rw (key-alike (h .ledger) a s c) at e))) (found-slots u
+      (accessFor (u .registers) a) i)
 
   access-places : (a : Asked) → a .strand < 4 → a .selector < 3 → PlacesAlike (accessTo u (accessFor (u .registers) a) .state) (accessed k a)
   access-places a s c = go (prepare-alike (h .ledger) a s c)
     where
-      go : Early n u (accessFor (u .registers) a) (prepare (u .registers) (accessFor (u .registers) a)) (earlySteps l a) → PlacesAlike (accessTo u (accessFor (u .registers) a) .state) (accessed k a)
+      go : Early n u (accessFor (u .registers) a) (prepare (u .registers) (accessFor (u .registers) a)) (earlySteps l a)
+          → PlacesAlike (accessTo u (accessFor (u .registers) a) .state) (accessed k a)
       go (looks p past) = rw (p, none-passes (λ q. q .0) (earlySteps l a), past) (found-places a s c _ refl)
       go (ends any z f) = rw (none-passes (λ q. q .0) (earlySteps l a), any) (places-same _ (h .places) z)
 

@@ -20,7 +20,8 @@ use Rattle.machine.specs.Registers.{registerWords}
 use Rattle.machine.specs.Questions.{flagLocked, insertion, asked, verdict}
 use Rattle.machine.specs.Step.{placedAnswer, act, step}
 use Rattle.machine.specs.Stream.{Bytes, Taken, answerBytes, after, answersBytes, runOf}
-use Rattle.machine.specs.Ledger.{Ledger, line, Written, nameIn, addressGood, wordGood, tagOf, newEntry, firstNo, questions, lacksSlot, inserts, does, enters}
+use Rattle.machine.specs.Ledger.{Ledger, line, Written, nameIn, addressGood, wordGood, tagOf, newEntry, firstNo}
+use Rattle.machine.specs.Ledger.{questions, lacksSlot, inserts, does, enters}
 use Rattle.machine.specs.Demand3.{unitBytes, fed, fedNext, fedAfter, ledgerBytes, Says, SaysOf, CommandsSay, RunSays, Event, run, EventsSay, Demand3}
 use Rattle.machine.specs.Frame.{entryIn}
 use Rattle.machine.specs.Places.{Place, empty, Reference, moved, placesAfter, referenceStart, row, referenceWords}
@@ -42,7 +43,9 @@ use Rattle.machine.proofs.Alike.{SideAlike, Alike, placeIn, PlacesAlike
 use Rattle.machine.proofs.Used.{new-used}
 use Rattle.machine.proofs.Places.{inserted-side, places-with, side-words}
 use Rattle.machine.proofs.Sides.{alike-empty, alike-lacks}
-use Rattle.machine.proofs.Questions.{verdictNumber, same-number, number-passed, number-refused, slotLeft, refused-alike, passed-alike, refused-bytes, reset-alike, tag-address, address-good, word-good, word-insertable, insertion-entry}
+use Rattle.machine.proofs.Questions.{verdictNumber, same-number, number-passed, number-refused, slotLeft}
+use Rattle.machine.proofs.Questions.{refused-alike, passed-alike, refused-bytes, reset-alike, tag-address}
+use Rattle.machine.proofs.Questions.{address-good, word-good, word-insertable, insertion-entry}
 use Rattle.machine.proofs.Looks.{StepAlike, used-alike}
 use Rattle.machine.proofs.Commands.{does-alike, does-places, access-told, insertion-says, insert-agrees, insert-alike, insert-refused, alike-side}
 

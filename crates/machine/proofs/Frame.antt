@@ -132,7 +132,8 @@ module _ (s : List Slot) (k : sideSound s ≡ true) (new : Slot) (a : slotSound 
     inserted-frame =
         ⊎-elim
         (λ c. placed-frame c (placed candidate new s) (placed-says candidate new s)
-        (count-inserted same (λ x t. rw (not-true (isLive x) t)) (λ x. let lock : withoutUsed x .flags % 2 ≡ x .flags % 2 = omega arith in rw lock) candidate new s))
+        (count-inserted same (λ x t. rw (not-true (isLive x) t)) (λ x. let lock : withoutUsed x .flags % 2 ≡ x .flags % 2 = omega arith in rw lock)
+        candidate new s))
         (λ t. inr (inl t))
         (spared s e h k (overlap-test new a l))
 
@@ -157,7 +158,8 @@ insertion-partition : (u : State) (strand side flags word : ℕ) → partition (
 unfolding entryOf
 insertion-partition u strand side flags word h = go (flagReal flags) _ _ ∙ mod-eq-of-lt h
   where
-    go : (real : Bool) (context : ℕ) (address : VirtualAddress) → keyOwner (keyOf real (partition (u .registers) strand) context address) / 2 ^ 14 ≡ partition (u .registers) strand % 8
+    go : (real : Bool) (context : ℕ) (address : VirtualAddress)
+        → keyOwner (keyOf real (partition (u .registers) strand) context address) / 2 ^ 14 ≡ partition (u .registers) strand % 8
     go true context address = owner-parts _ true 0 .0
     go false context address = owner-parts _ false context .0
 
@@ -183,7 +185,8 @@ module _ (n : Counts) (u : State) (side : ℕ) (e : Entry) (h : sound n u ≡ tr
       insertion-partition u strand side flags word (strand-sound (u .registers) strand (sound-registers n u h) s .partitions) in
       ⊎-elim inl
       (λ r. inr (⊎-elim (λ t. overlapped (sym p ∙ search conj) t) (λ t. displaced (t .0) (t .1) (t .2)) r))
-      (inserted-frame (sideOf u side) (sound-side n u h side .1) new (insertion-sound u strand side flags word a w) (insertion-live u strand side flags word w) e l)
+      (inserted-frame (sideOf u side) (sound-side n u h side .1) new (insertion-sound u strand side flags word a w)
+      (insertion-live u strand side flags word w) e l)
 
   -- an access marks the entry that it finds, and writes registers
   judged-frame : (v : State) (a : Access) (j : Judged) → Lives v side e → Lives (settleJudged v a j .state) side e

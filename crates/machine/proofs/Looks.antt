@@ -19,14 +19,18 @@ use Rattle.machine.specs.Registers.{withRegister, mode, translates, sele
 use Rattle.machine.specs.Registers as registers
 use Rattle.machine.specs.State.{Counts, State, withRegisters}
 use Rattle.machine.specs.Questions.{kindSide, keyOf}
-use Rattle.machine.specs.Access.{addressUsed, exception, trapTag, bypassTo, lookupKey, prepare, missTrap, faultType, judge, trapNumber, trapFault, trapRegisters, Stepped, trapTo, settleJudged, settleFound, settle, accessTo}
+use Rattle.machine.specs.Access.{addressUsed, exception, trapTag, bypassTo, lookupKey, prepare, missTrap}
+use Rattle.machine.specs.Access.{faultType, judge, trapNumber, trapFault, trapRegisters, Stepped, trapTo}
+use Rattle.machine.specs.Access.{settleJudged, settleFound, settle, accessTo}
 use Rattle.machine.specs.declared.Access.{Access}
 use Rattle.machine.specs.declared.Tag.{Tag}
 use Rattle.machine.specs.declared.Tag.the-variants as effect
 use Rattle.machine.specs.declared.Prepared.{Prepared}
 use Rattle.machine.specs.declared.Prepared.the-variants as prepared
 use Rattle.machine.specs.Stream.{answerBytes}
-use Rattle.machine.specs.Ledger.{Entry, Ledger, writes, pageBytes, bit, contextPicked, tagOf, line, Written, answers, Asked, usedAddress, translationOn, askedSide, faults, taggedTrap, firstFit, earlySteps, misses, hits}
+use Rattle.machine.specs.Ledger.{Entry, Ledger, writes, pageBytes, bit, contextPicked, tagOf, line, Written}
+use Rattle.machine.specs.Ledger.{answers, Asked, usedAddress, translationOn, askedSide, faults, taggedTrap}
+use Rattle.machine.specs.Ledger.{firstFit, earlySteps, misses, hits}
 use Rattle.machine.specs.declared.VirtualAddress.{VirtualAddress}
 use Rattle.machine.specs.declared.Translation.{Translation}
 use Rattle.machine.specs.declared.Answer.the-variants as answer
@@ -131,7 +135,8 @@ pub exception-fault : (kind fault : ℕ) → trapFault (exception kind fault) �
 exception-fault kind fault = by-test (eqb kind 0) (λ e. rw e) (λ e. rw e)
 
 -- the number of a miss
-miss-trap : (on fetch : Bool) → (let t : Trap = cond on (cond fetch trap.InstructionMiss trap.DataMiss) (cond fetch trap.InstructionRealMiss trap.DataRealMiss) in
+miss-trap : (on fetch : Bool) → (let t : Trap = cond on (cond fetch trap.InstructionMiss trap.DataMiss)
+    (cond fetch trap.InstructionRealMiss trap.DataRealMiss) in
     (trapNumber t ≡ cond fetch (cond on 0x64 0x3E) (cond on 0x68 0x3F)) × (trapFault t ≡ 0))
 miss-trap true true = (refl, refl)
 miss-trap true false = (refl, refl)
@@ -232,7 +237,8 @@ module _ {n : Counts} {u : State} {l : Ledger} (k : Alike n u l) (q : Asked) (s 
   -- ---- traps
   -- registers 20 to 25 take any value
   trap-written : {v : State} {m : Ledger} → Alike n v m → (r value : ℕ) → r ≤ 4
-      → Alike n (withRegisters v (withRegister (v .registers) (a .strand) (20 + r + kindSide (a .kind)) value)) (writes m (a .strand) (20 + r + kindSide (a .kind)) value)
+      → Alike n (withRegisters v (withRegister (v .registers) (a .strand) (20 + r + kindSide (a .kind)) value))
+      (writes m (a .strand) (20 + r + kindSide (a .kind)) value)
   trap-written j r value h =
       let side = kind-side (a .kind) in
       alike-registers j (a .strand) _ value s (omega arith) (allowed-any _ value (omega arith) (omega arith))
@@ -266,7 +272,8 @@ module _ {n : Counts} {u : State} {l : Ledger} (k : Alike n u l) (q : Asked) (s 
         alike = faulted-alike;
       }
       by-tag (effect.Written context) =
-          let j : Alike n (trapTo u a t (effect.Written context) .state) _ = trap-written faulted-alike 0 (registers.tagOf (a .used .0) context) (omega arith) in
+          let j : Alike n (trapTo u a t (effect.Written context) .state) _ = trap-written faulted-alike 0 (registers.tagOf (a .used .0) context)
+          (omega arith) in
           rw (tag-alike (a .used .0) context) (record {
             bytes = trap-told t (effect.Written context) _ _ h j (rw (eq-eqb (a .strand) (a .strand) refl, eq-eqb (20 + side) (20 + side) refl));
             alike = j;
@@ -295,7 +302,8 @@ module _ {n : Counts} {u : State} {l : Ledger} (k : Alike n u l) (q : Asked) (s 
       let data-nucleus : (eqb (l .registers (a .strand) 3) 0 && (eqb (kindSide (a .kind)) 1 && eqb (a .selector) 2)) ≡ nucleus =
       rw (m, data-side (a .kind)) in
       early-next _ (prepared.Stopped trap.AddressNotAligned effect.Kept) refl (refl, refl) (trap-alike trap.AddressNotAligned effect.Kept (omega arith))
-      (early-next nucleus (prepared.Stopped trap.PrivilegedAction effect.Kept) data-nucleus (refl, refl) (trap-alike trap.PrivilegedAction effect.Kept (omega arith))
+      (early-next nucleus (prepared.Stopped trap.PrivilegedAction effect.Kept) data-nucleus (refl, refl)
+      (trap-alike trap.PrivilegedAction effect.Kept (omega arith))
       (early-next _ (prepared.Bypass (bypassTo (a .used))) (ap (λ x. eqb x 2) m) (refl, refl)
       (record { bytes = physical-told (bypassTo (a .used)) (bypass-small (eqb (bits 39 1 (a .used .0)) 0)); alike = k })
       (early-next _ (prepared.Stopped (exception (a .kind) 0x20) (trapTag (u .registers) a)) (ap not (address-good (a .used .0))) (refl, refl)

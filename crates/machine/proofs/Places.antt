@@ -16,12 +16,15 @@ use Rattle.laws.proofs.Bools.{by-test, clash, and-left, and-right}
 use Rattle.laws.proofs.Walks.{found-any, found-none}
 use Rattle.laws.proofs.Finds.{none-passes}
 use Rattle.machine.specs.Slots.{wordsOf, noSlot, isLive, partitionOf, isReal, contextOf, isLocked, isUsed, withUsed, withoutUsed, setUsed, clearUsed}
-use Rattle.machine.specs.Insertion.{overlaps, emptiedBy, removed, isEmpty, candidate, wants, foundOr, choice, stored, displacedBy, inserted, placed, hasSlot}
+use Rattle.machine.specs.Insertion.{overlaps, emptiedBy, removed, isEmpty, candidate, wants, foundOr, choice}
+use Rattle.machine.specs.Insertion.{stored, displacedBy, inserted, placed, hasSlot}
 use Rattle.machine.specs.Sound.{slotSound, sideSound}
 use Rattle.machine.specs.State.{State, sideOf, withSide}
 use Rattle.machine.specs.Frame.{entryIn}
 use Rattle.machine.specs.Ledger.{Entry, overlap}
-use Rattle.machine.specs.Places.{Place, empty, filled, withPlaces, isFree, isUnlocked, isUnused, emptiedWhere, usedWhere, unused, sought, atLowest, withEntry, displacedFrom, placeWords, sideWords}
+use Rattle.machine.specs.Places.{Place, empty, filled, withPlaces, isFree, isUnlocked, isUnused, emptiedWhere}
+use Rattle.machine.specs.Places.{usedWhere, unused, sought, atLowest, withEntry, displacedFrom, placeWords}
+use Rattle.machine.specs.Places.{sideWords}
 use Rattle.machine.specs.declared.Slot.{Slot}
 use Rattle.machine.specs.declared.Wanted.the-variants as wanted
 use Rattle.machine.specs.declared.Choice.{Choice}

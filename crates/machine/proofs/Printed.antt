@@ -16,5 +16,10 @@ use Rattle.machine.specs.Examples.{given, printed, PrintedRun}
 use Rattle.machine.specs.Stream.{eight, widthOf, commandAt, decodeAt, answerBytes, takes, after, answersBytes, finish, runOf}
 
 pub printed-run : PrintedRun
-unfolding PrintedRun given printed allBelow count anyOf allOf pairwise firstFrom inRange listed pageShift wordSound wordInsertable frame physicalAt slotsOf wordsOf answersTo overlaps removes entryOf wants choice inserted placed hasSlot ownerSound pageSound liveSound emptySound slotSound sideSound known writable baseAllowed configurationAllowed allowed registersSound resetStrands stateOf encode reset sideFits sound wordsSound asked ask verdict prepare faultType judge trapRegisters tsbOffset tsbPointer act step eight widthOf commandAt decodeAt answerBytes takes after answersBytes finish runOf
+unfolding PrintedRun given printed allBelow count anyOf allOf pairwise firstFrom inRange listed pageShift wordSound
+    wordInsertable frame physicalAt slotsOf wordsOf answersTo overlaps removes entryOf wants choice inserted placed
+    hasSlot ownerSound pageSound liveSound emptySound slotSound sideSound known writable baseAllowed
+    configurationAllowed allowed registersSound resetStrands stateOf encode reset sideFits sound wordsSound asked ask
+    verdict prepare faultType judge trapRegisters tsbOffset tsbPointer act step eight widthOf commandAt decodeAt
+    answerBytes takes after answersBytes finish runOf
 printed-run = (refl, refl, refl, refl)

@@ -16,13 +16,18 @@ use Rattle.machine.specs.Pages.{inRange, listed, pageShift, pageSize, pa
 use Rattle.machine.specs.Words.{bits, wordSound, wordInsertable}
 use Rattle.machine.specs.Slots.{noSlot}
 use Rattle.machine.specs.Insertion.{entryOf, candidate, hasSlot}
-use Rattle.machine.specs.Registers.{register, withRegister, partition, selected, tagAccess, tagAddress, tagContext, baseNumber, configurationNumber, known, writable, baseAllowed, configurationAllowed, allowed, resetRegisters, resetStrands}
+use Rattle.machine.specs.Registers.{register, withRegister, partition, selected, tagAccess, tagAddress}
+use Rattle.machine.specs.Registers.{tagContext, baseNumber, configurationNumber, known, writable, baseAllowed}
+use Rattle.machine.specs.Registers.{configurationAllowed, allowed, resetRegisters, resetStrands}
 use Rattle.machine.specs.State.{Counts, State, sideOf, withRegisters, reset}
-use Rattle.machine.specs.Questions.{Question, question, refusalNumber, flagReal, flagLocked, keyOf, insertion, kindSide, selectorFits, nucleusFetch, sizeFits, asked, ask, verdict}
+use Rattle.machine.specs.Questions.{Question, question, refusalNumber, flagReal, flagLocked, keyOf, insertion}
+use Rattle.machine.specs.Questions.{kindSide, selectorFits, nucleusFetch, sizeFits, asked, ask, verdict}
 use Rattle.machine.specs.Step.{act}
 use Rattle.machine.specs.Tsb.{tsbOffset, tsbPointer, pointer}
 use Rattle.machine.specs.Stream.{answerBytes}
-use Rattle.machine.specs.Ledger.{Ledger, start, writes, codeBytes, pageBytes, codeListed, addressGood, wordGood, registerKnown, registerWritable, valueGood, contextPicked, tagOf, line, newEntry, firstNo, selectorGood, questions, pointerOf, pointers}
+use Rattle.machine.specs.Ledger.{Ledger, start, writes, codeBytes, pageBytes, codeListed, addressGood, wordGood}
+use Rattle.machine.specs.Ledger.{registerKnown, registerWritable, valueGood, contextPicked, tagOf, line}
+use Rattle.machine.specs.Ledger.{newEntry, firstNo, selectorGood, questions, pointerOf, pointers}
 use Rattle.machine.specs.Frame.{entryIn}
 use Rattle.machine.specs.Views.{View, view}
 use Rattle.machine.specs.Views as views
@@ -35,7 +40,9 @@ use Rattle.machine.specs.declared.Verdict.{Verdict}
 use Rattle.machine.specs.declared.Verdict.the-variants.{Passed, Refused}
 use Rattle.machine.specs.declared.Answer.the-variants as answer
 use Rattle.machine.proofs.Sound.{owner-parts}
-use Rattle.machine.proofs.State.{register-written, registers-written, sound-file, strand-sound, configuration-listed, sound-registers, reset-sound, passed-asked, known-below, writable-below, kind-side}
+use Rattle.machine.proofs.State.{register-written, registers-written, sound-file, strand-sound}
+use Rattle.machine.proofs.State.{configuration-listed, sound-registers, reset-sound, passed-asked, known-below}
+use Rattle.machine.proofs.State.{writable-below, kind-side}
 use Rattle.machine.proofs.Bytes.{line-answer}
 use Rattle.machine.proofs.Alike.{SideAlike, Alike}
 
@@ -382,7 +389,8 @@ module _ {n : Counts} {u : State} {l : Ledger} (a : Alike n u l) where
   pointer-alike strand side size s d z =
       let context : ℕ = tagContext (tagAccess (u .registers) strand side) in
       let o : kindSide context < 2 = kind-side context in
-      rw (tag-access a strand s side d, a .registers strand (baseNumber side context size) s (omega arith), a .registers strand (configurationNumber side context) s (omega arith))
+      rw (tag-access a strand s side d, a .registers strand (baseNumber side context size) s (omega arith), a .registers strand
+      (configurationNumber side context) s (omega arith))
       (pointer-of _ _ _ (configuration-listed (u .registers) strand (configurationNumber side context) size (a .allowed) s (omega arith) (omega arith) z))
 
   pub pointers-bytes : (strand side : ℕ) → verdict u (command.Pointers strand side) ≡ Passed
@@ -393,7 +401,8 @@ module _ {n : Counts} {u : State} {l : Ledger} (a : Alike n u l) where
       let s : strand < 4 = search conj in
       let d : side < 2 = search conj in
       let whole : (x : ℕ) → x / 2 ^ 0 ≡ x = λ x. omega arith in
-      rw (pointer-alike strand side 0 s d (omega arith), pointer-alike strand side 1 s d (omega arith), round-down (tagOf l strand side) 8192, whole (l .registers strand (configurationNumber side (tagContext (tagOf l strand side)))))
+      rw (pointer-alike strand side 0 s d (omega arith), pointer-alike strand side 1 s d (omega arith), round-down (tagOf l strand side) 8192, whole
+      (l .registers strand (configurationNumber side (tagContext (tagOf l strand side)))))
       (line-answer 3 _ _ (omega arith) (omega arith) (omega arith))
 
 pub write-bytes : (u : State) (strand number value : ℕ) → answerBytes (act u (command.Write strand number value) .answer) ≡ line 0 0 0 0 0 0
@@ -441,11 +450,13 @@ entry-in false p c address locked word h k =
     rw (o .0, o .1, o .2, mod-eq-of-lt h, mod-eq-of-lt k, lock-back locked)
 
 -- the unit's new slot holds the ledger's new entry
-pub insertion-entry : {n : Counts} {u : State} {l : Ledger} → Alike n u l → (strand side flags word : ℕ) → strand < 4 → side < 2 → flags < 4 → wordSound word ≡ true
+pub insertion-entry : {n : Counts} {u : State} {l : Ledger} → Alike n u l → (strand side flags word : ℕ) → strand < 4 → side < 2
+    → flags < 4 → wordSound word ≡ true
     → entryIn (insertion u strand side flags word) ≡ newEntry l strand side flags word
 unfolding newEntry
 insertion-entry {u} {l} a strand side flags word s d f h =
     let tag : ℕ = tagAccess (u .registers) strand side in
     entry-in (flagReal flags) (partition (u .registers) strand) (tagContext tag) (tagAddress tag) (flagLocked flags) word
     (strand-sound (u .registers) strand (a .allowed) s .partitions) (omega arith)
-    ∙ rw (tag-address a strand s side d, tag-access a strand s side d, a .registers strand 0 s (omega arith), page-bytes word h, round-down (tagAddress tag .0) (pageSize (word % 2 ^ 4)), flag-locked flags f)
+    ∙ rw (tag-address a strand s side d, tag-access a strand s side d, a .registers strand 0 s (omega arith), page-bytes word h, round-down
+    (tagAddress tag .0) (pageSize (word % 2 ^ 4)), flag-locked flags f)

@@ -12,18 +12,21 @@ use Rattle.laws.specs.Passing.{howMany, nonePasses}
 use Rattle.laws.proofs.Bools.{by-test, clash, and-both, and-left, and-right}
 use Rattle.machine.specs.State.{Counts, counts, slotCount, stateWords, State, stateOf, encode, sound, wordsSound, reset, resetOf, resetNumber}
 use Rattle.machine.specs.Stream.{Bytes, Outcome, after, answersBytes, runOf}
-use Rattle.machine.specs.Ledger.{Entry, Ledger, overlap, unlocked, Name, nameIn, isNamed, newEntry, firstNo, questions, lacksSlot, Written, inserts, does, enters}
+use Rattle.machine.specs.Ledger.{Entry, Ledger, overlap, unlocked, Name, nameIn, isNamed, newEntry, firstNo}
+use Rattle.machine.specs.Ledger.{questions, lacksSlot, Written, inserts, does, enters}
 use Rattle.machine.specs.Places.{slots, Reference, placesAfter, referenceStart, referenceWords}
 use Rattle.machine.specs.Format.{Reading, ReadAs}
 use Rattle.machine.specs.Demand3.{unitBytes, fedNext, fedAfter, ledgerBytes, Event, run}
 use Rattle.machine.specs.Good.{ReferenceGood}
-use Rattle.machine.specs.Reference.{nameOf, displacedName, referenceNext, referenceAfter, referenceBytes, Leaves, RunTold, ResetTold, returned, EventsTold, Told}
+use Rattle.machine.specs.Reference.{nameOf, displacedName, referenceNext, referenceAfter, referenceBytes, Leaves}
+use Rattle.machine.specs.Reference.{RunTold, ResetTold, returned, EventsTold, Told}
 use Rattle.machine.specs.declared.Command.{Command}
 use Rattle.machine.specs.declared.Command.the-variants as command
 use Rattle.machine.proofs.State.{reset-sound, sound-encode, words-sound}
 use Rattle.machine.proofs.Runs.{run-unsound}
 use Rattle.machine.proofs.Alike.{ReferenceAlike}
-use Rattle.machine.proofs.Demand3.{step-says, alike-sound, alike-words, commands-agree, read-words, read-answered, read-taken, read-stop, read-front, read-past, start-alike}
+use Rattle.machine.proofs.Demand3.{step-says, alike-sound, alike-words, commands-agree, read-words}
+use Rattle.machine.proofs.Demand3.{read-answered, read-taken, read-stop, read-front, read-past, start-alike}
 use Rattle.machine.proofs.Good.{alike-good, stateFor, good-alike, described}
 
 ruleset conj = (and-left, and-right, eqb-true)

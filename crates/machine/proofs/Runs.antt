@@ -14,7 +14,8 @@ use Rattle.laws.proofs.Bools.{by-test}
 use Rattle.laws.proofs.Stores.{sets-append, take-sets, drop-sets}
 use Rattle.machine.specs.State.{Counts, State, stateOf, encode, wordsSound}
 use Rattle.machine.specs.Step.{step}
-use Rattle.machine.specs.Stream.{Bytes, Taken, Outcome, byte, widthOf, decodeAt, answerBytes, ended, more, takesOne, takes, takenOf, after, answersBytes, finish, runOf}
+use Rattle.machine.specs.Stream.{Bytes, Taken, Outcome, byte, widthOf, decodeAt, answerBytes, ended, more}
+use Rattle.machine.specs.Stream.{takesOne, takes, takenOf, after, answersBytes, finish, runOf}
 use Rattle.machine.specs.declared.Command.{Command}
 use Rattle.machine.specs.declared.Decoded.{Decoded}
 use Rattle.machine.specs.declared.Decoded.the-variants.{Known, Stop}
@@ -130,7 +131,8 @@ module _ (n : Counts) (words : List ℕ) (input output : Bytes) (h : wordsSound 
   unfolding runOf finish
   run-output = rw h
 
-  pub run-front : take (runOf n words input output .answered * 24) (runOf n words input output .output) ≡ answersBytes (stateOf n words) (commandsOf input output)
+  pub run-front : take (runOf n words input output .answered * 24) (runOf n words input output .output) ≡ answersBytes (stateOf n words)
+      (commandsOf input output)
   run-front =
       let cs : List Command = commandsOf input output in
       rw (run-answered, run-output) (take-sets output _ _ (answers-length cs (stateOf n words)) (takes-room input (length output)))

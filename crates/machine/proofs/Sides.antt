@@ -24,7 +24,8 @@ use Rattle.machine.specs.Slots.{noSlot, isLive, sizeCode, partitionOf, i
 use Rattle.machine.specs.Insertion.{overlaps, removed, removes, isEmpty, candidate, inserted, placed, hasSlot}
 use Rattle.machine.specs.Sound.{ownerSound, liveSound, slotSound, sideSound}
 use Rattle.machine.specs.Questions.{keyOf}
-use Rattle.machine.specs.Ledger.{Entry, Ledger, Name, codeBytes, pageBytes, reaches, overlap, unlocked, isAt, inContext, inPartition, isNamed, lacksSlot, inserts, answers, withEntries, line}
+use Rattle.machine.specs.Ledger.{Entry, Ledger, Name, codeBytes, pageBytes, reaches, overlap, unlocked, isAt}
+use Rattle.machine.specs.Ledger.{inContext, inPartition, isNamed, lacksSlot, inserts, answers, withEntries, line}
 use Rattle.machine.specs.Demand3.{Live}
 use Rattle.machine.specs.Frame.{entryIn}
 use Rattle.machine.specs.declared.VirtualAddress.{VirtualAddress}
@@ -33,7 +34,9 @@ use Rattle.machine.specs.declared.Removal.the-variants.{Page, Context, U
 use Rattle.machine.specs.declared.Placed.the-variants.{Done, Displaced}
 use Rattle.machine.proofs.Pages.{shift-large}
 use Rattle.machine.proofs.Alike.{hit, SideAlike}
-use Rattle.machine.proofs.Insertion.{overlaps-live, one-answers, length-removed, count-removed, count-set-used, slot-had, Displacement, placed-says, length-inserted, displacedShare, newShare, count-inserted}
+use Rattle.machine.proofs.Insertion.{overlaps-live, one-answers, length-removed, count-removed, count-set-used}
+use Rattle.machine.proofs.Insertion.{slot-had, Displacement, placed-says, length-inserted, displacedShare}
+use Rattle.machine.proofs.Insertion.{newShare, count-inserted}
 use Rattle.machine.proofs.Sound.{live-parts, agrees-virtual, agrees-real, sound-slot, empty-sound, sound-removed, sound-set-used, sound-inserted}
 
 -- ---- tests
@@ -105,7 +108,8 @@ bit-same a b p q e =
     omega arith)
 
 -- owner words are equal where partition, real bit and context are
-owner-same : (x y : Slot) → (eqb (partitionOf x) (partitionOf y) && (Bool·beq (isReal x) (isReal y) && eqb (contextOf x) (contextOf y))) ≡ eqb (x .owner) (y .owner)
+owner-same : (x y : Slot) → (eqb (partitionOf x) (partitionOf y) && (Bool·beq (isReal x) (isReal y) && eqb (contextOf x) (contextOf y))) ≡ eqb
+    (x .owner) (y .owner)
 owner-same x y =
     both-ways _ _
     (λ h.
@@ -144,7 +148,8 @@ key-test partition real context address p c = record { agree = agree real; live 
     agree true x h l =
         let s : liveSound x ≡ true = rw l at h in
         let o : ownerSound x ≡ true = search conj in
-        rw (l, reaches-holds x h l (address .0), agrees-real x partition p (untranslated address) o, same-yes (isReal x)) (and-assoc (eqb (partitionOf x) partition) _ _)
+        rw (l, reaches-holds x h l (address .0), agrees-real x partition p (untranslated address) o, same-yes (isReal x))
+        (and-assoc (eqb (partitionOf x) partition) _ _)
     agree false x h l =
         rw (l, reaches-holds x h l (address .0), agrees-virtual x partition p context address c, same-no (isReal x)) (simp and-assoc)
 
@@ -445,13 +450,15 @@ module _ {n : ℕ} {s : List Slot} {m : List Entry} (h : SideAlike n s m) where
         }
 
 -- ---- the ledger's insertion, told any name d
-module _ {n : ℕ} {s : List Slot} (g : Ledger) (side : ℕ) (h : SideAlike n s (g .entries side)) (new : Slot) (k : slotSound new ≡ true) (l : isLive new ≡ true) (d : Name) where
+module _ {n : ℕ} {s : List Slot} (g : Ledger) (side : ℕ) (h : SideAlike n s (g .entries side)) (new : Slot) (k : slotSound new ≡ true)
+    (l : isLive new ≡ true) (d : Name) where
   pub inserts-refused : hasSlot candidate new s ≡ false → inserts n g side (entryIn new) d ≡ answers g (line 5 13 0 0 0 0)
   unfolding inserts
   inserts-refused e = rw (alike-lacks h new k l, e)
 
   pub inserts-done : placed candidate new s ≡ Done
-      → inserts n g side (entryIn new) d ≡ answers (withEntries g side (without (overlap (entryIn new)) (g .entries side) ++ (entryIn new ∷ []))) (line 0 0 0 0 0 0)
+      → inserts n g side (entryIn new) d ≡ answers (withEntries g side (without (overlap (entryIn new)) (g .entries side) ++ (entryIn new ∷ [])))
+      (line 0 0 0 0 0 0)
   unfolding inserts
   inserts-done e = rw (alike-lacks h new k l, slot-had candidate new s, e, alike-done h new k l e .0)
 

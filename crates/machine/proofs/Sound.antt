@@ -12,7 +12,8 @@ use Rattle.laws.proofs.Bools.{by-test, clash, both-ways, and-both, and-left, an
 use Rattle.laws.proofs.Alls.{clear, pair-cons, all-both, all-get, all-map, all-set, pair-map, pair-set}
 use Rattle.machine.specs.Pages.{inRange, pageStart}
 use Rattle.machine.specs.Words.{wordSound}
-use Rattle.machine.specs.Slots.{noSlot, isLive, sizeCode, partitionOf, isReal, contextOf, ownerWord, keyAddress, agrees, withUsed, withoutUsed, setUsed, clearUsed}
+use Rattle.machine.specs.Slots.{noSlot, isLive, sizeCode, partitionOf, isReal, contextOf, ownerWord, keyAddress}
+use Rattle.machine.specs.Slots.{agrees, withUsed, withoutUsed, setUsed, clearUsed}
 use Rattle.machine.specs.Insertion.{overlaps, emptiedBy, removed, entryOf, choice, stored, inserted}
 use Rattle.machine.specs.Sound.{ownerSound, pageSound, liveSound, emptySound, slotSound, sideSound}
 use Rattle.machine.specs.declared.Slot.{Slot}

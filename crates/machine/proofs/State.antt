@@ -20,8 +20,11 @@ use Rattle.machine.specs.Words.{bits, wordInsertable}
 use Rattle.machine.specs.Slots.{slotsOf, wordsOf, noSlot, isLive, keyAddress, answersTo, setUsed}
 use Rattle.machine.specs.Insertion.{removes, candidate}
 use Rattle.machine.specs.Sound.{slotSound, sideSound}
-use Rattle.machine.specs.Registers.{registerWords, cell, register, withRegister, partition, mode, addressMask, selected, tagAccess, tagAddress, tagContext, known, writable, baseAllowed, configurationAllowed, allowed, registersSound, resetStrands}
-use Rattle.machine.specs.State.{slotCount, Counts, State, sideOf, withSide, withRegisters, stateWords, stateOf, encode, reset, sideFits, sound, wordsSound}
+use Rattle.machine.specs.Registers.{registerWords, cell, register, withRegister, partition, mode, addressMask}
+use Rattle.machine.specs.Registers.{selected, tagAccess, tagAddress, tagContext, known, writable, baseAllowed}
+use Rattle.machine.specs.Registers.{configurationAllowed, allowed, registersSound, resetStrands}
+use Rattle.machine.specs.State.{slotCount, Counts, State, sideOf, withSide, withRegisters, stateWords, stateOf}
+use Rattle.machine.specs.State.{encode, reset, sideFits, sound, wordsSound}
 use Rattle.machine.specs.Questions.{Question, kindSide, flagReal, flagLocked, keyOf, insertion, asked, ask, verdict}
 use Rattle.machine.specs.Access.{judge, prepare, trapTag, trapRegisters, accessOf, settleJudged, settleFound, settle}
 use Rattle.machine.specs.declared.VirtualAddress.{VirtualAddress}
@@ -72,7 +75,8 @@ pub allowed-at : (file : List ℕ) (strand number : ℕ) → registersSound file
 unfolding registersSound
 allowed-at file strand number h s r =
     let m : cell strand number % 32 ≡ number = omega arith in
-    rw m at (below-at (λ i. allowed (i % 32) (getD file i 0)) registerWords (cell strand number) (and-right (eqb (length file) registerWords) _ h) (omega arith))
+    rw m at (below-at (λ i. allowed (i % 32) (getD file i 0)) registerWords (cell strand number) (and-right (eqb (length file) registerWords) _ h)
+    (omega arith))
 
 -- a write of an allowed value
 pub registers-written : (file : List ℕ) (strand number value : ℕ) → registersSound file ≡ true → strand < 4 → number < 32 → allowed number value ≡ true
@@ -95,7 +99,8 @@ allowed-high : (number value : ℕ) → 16 ≤ number
 unfolding allowed
 allowed-high number value h =
     let past : (k : ℕ) → k ≤ 16 → ltb number k ≡ false = λ k l. le-ltb number k (omega arith) in
-    rw (past 1 (omega arith), past 3 (omega arith), past 4 (omega arith), past 5 (omega arith), past 6 (omega arith), past 8 (omega arith), past 16 (omega arith))
+    rw (past 1 (omega arith), past 3 (omega arith), past 4 (omega arith), past 5 (omega arith), past 6 (omega arith), past 8 (omega arith), past 16
+    (omega arith))
 
 -- any value, in tag access and the registers that a trap writes
 pub allowed-any : (number value : ℕ) → 20 ≤ number → number < 26 → allowed number value ≡ true
@@ -244,7 +249,8 @@ key-address true partition context address = refl
 key-address false partition context address = refl
 
 -- the slot of an insertion whose word and address passed
-pub insertion-sound : (u : State) (strand side flags word : ℕ) → inRange (tagAddress (tagAccess (u .registers) strand side) .0) ≡ true → wordInsertable word ≡ true
+pub insertion-sound : (u : State) (strand side flags word : ℕ) → inRange (tagAddress (tagAccess (u .registers) strand side) .0) ≡ true
+    → wordInsertable word ≡ true
     → slotSound (insertion u strand side flags word) ≡ true
 insertion-sound u strand side flags word a w =
     let tag : ℕ = tagAccess (u .registers) strand side in

@@ -10,7 +10,8 @@ use Rattle.laws.specs.declared.Found.the-variants.{At, Nothing}
 use Rattle.machine.specs.Pages.{inRange, bypassed}
 use Rattle.machine.specs.Words.{bits, physicalAt}
 use Rattle.machine.specs.Slots.{noSlot, search, setUsed}
-use Rattle.machine.specs.Registers.{register, withRegister, partition, mode, translates, addressMask, selected, tagNumber, tagOf, faultAddressNumber, faultNumber}
+use Rattle.machine.specs.Registers.{register, withRegister, partition, mode, translates, addressMask, selected}
+use Rattle.machine.specs.Registers.{tagNumber, tagOf, faultAddressNumber, faultNumber}
 use Rattle.machine.specs.Questions.{kindSide, keyOf}
 use Rattle.machine.specs.State.{State, sideOf, withSide, withRegisters}
 use Rattle.machine.specs.declared.Slot.{Slot}

@@ -12,7 +12,9 @@ use Rattle.machine.specs.State.{Counts, slotCount, State, stateOf, encod
 use Rattle.machine.specs.Step.{step}
 use Rattle.machine.specs.Stream.{Bytes, answerBytes, runOf}
 use Rattle.machine.specs.Views.{View, insertion, access, other, view}
-use Rattle.machine.specs.Ledger.{Entry, Ledger, overlap, unlocked, line, Written, nameIn, isNamed, newEntry, firstNo, questions, Asked, usedAddress, askedSide, looksUp, foundBy, misses, hits, enters}
+use Rattle.machine.specs.Ledger.{Entry, Ledger, overlap, unlocked, line, Written, nameIn, isNamed, newEntry}
+use Rattle.machine.specs.Ledger.{firstNo, questions, Asked, usedAddress, askedSide, looksUp, foundBy, misses}
+use Rattle.machine.specs.Ledger.{hits, enters}
 use Rattle.machine.specs.Places.{Place, Reference, displacedFrom, referenceTold, referenceStart, referenceWords}
 use Rattle.machine.specs.Format.{Reading, ReadAs}
 use Rattle.machine.specs.Good.{ReferenceGood, GoodWords}

@@ -8,7 +8,9 @@ use mathlib.Core.List.{List, [], _∷_, _++_, map}
 use lib.Dec.{eqb}
 use lib.ListN.{replicate}
 use Rattle.laws.specs.Passing.{nonePasses, find}
-use Rattle.machine.specs.Ledger.{Entry, Ledger, start, unlocked, overlap, contextPicked, oneIf, Name, newEntry, firstNo, questions, lacksSlot, isAt, inContext, inPartition, Asked, usedAddress, askedSide, looksUp, foundBy, enters}
+use Rattle.machine.specs.Ledger.{Entry, Ledger, start, unlocked, overlap, contextPicked, oneIf, Name, newEntry}
+use Rattle.machine.specs.Ledger.{firstNo, questions, lacksSlot, isAt, inContext, inPartition, Asked, usedAddress}
+use Rattle.machine.specs.Ledger.{askedSide, looksUp, foundBy, enters}
 use Rattle.machine.specs.declared.Command.{Command}
 use Rattle.machine.specs.declared.Command.the-variants as command
 

@@ -1,6 +1,5 @@
 -- What the code that acts may rely on: the operands of a command that passed its questions, and an entry displaced from a sound side.
 -- Assumes nothing.
-use Prim.Native.Nat.{_<_}
 use mathlib.Core.Path.{_≡_}
 use mathlib.Core.Bool.{true}
 use mathlib.Core.List.{List}

@@ -15,7 +15,8 @@ use Rattle.access.proofs.write_trap.Tie as tie
 add-write-side : tie.Need-add-write-side
 add-write-side c =
     let tag = c .before .before .before in
-    omega (arith, rw (tag .tag .given .1) at (tag .before .before .before .before .before .before .before .pre .3))
+    let fault = tag .before .before .before .before in
+    omega (arith, rw (tag .tag .given .1) at (fault .before .before .before .pre .3))
 
 returns : tie.Need-returns
 unfolding trapRegisters
@@ -29,7 +30,8 @@ returns c =
     let z = sized-words counts (s .args .state .now) (s .pre .0) in
     let file : List ℕ = trapRegisters (u .registers) a (s .args .trap) Kept in
     rw (tag .tag .given .1)
-    (written-more u z file (trap-length (u .registers) a (s .args .trap) Kept ∙ z .0) (fault .write-fault .ensures) (a .strand) (20 + a .side) _ (call .write-side .ensures))
+    (written-more u z file (trap-length (u .registers) a (s .args .trap) Kept ∙ z .0) (fault .write-fault .ensures) (a .strand) (20 + a .side) _
+    (call .write-side .ensures))
 
 returns-2 : tie.Need-returns-2
 returns-2 c = rw (c .enum-told .given .1) (c .before .before .before .before .write-fault .ensures)

@@ -73,7 +73,7 @@ module _ (c : tie.After-decoded Inv-loop μ-loop) where
   head = c .before .before .before .before .before
 
   abbrev input : List ℕ
-  input = head .before .before .before .before .before .before .before .args .input .now
+  input = let sound = head .before .before .before .before in sound .before .before .before .args .input .now
 
   abbrev width : ℕ
   width = c .decoded .given .0 .1 .0
@@ -82,12 +82,12 @@ module _ (c : tie.After-decoded Inv-loop μ-loop) where
   found = sym (c .before .before .command-at .ensures) ∙ c .decoded .given .1
 
   -- what the arithmetic of a turn goes by
-  record Within : Type 0 where
+  record Turn : Type 0 where
     some : 0 < width
     fits : head .loop .at + width ≤ length input
     small : length input < 2 ^ 64
 
-  within : Within
+  within : Turn
   within =
       let w = decode-width input (head .loop .at) found in
       record { some = omega arith; fits = omega arith; small = search needs }
@@ -140,12 +140,13 @@ returns-3 c =
 
 execute-requires : tie.Need-execute-requires Inv-loop μ-loop
 execute-requires c κs =
-    let l = c .before .before .before .before .before .before .before .before .loop in
+    let d = c .before .before in
+    let l = head (d .before) .loop in
     (l .inv .size, l .inv .sound)
 
 -- the turn's command, from where the turn ends
 abbrev decoded : tie.After-slice-known4 Inv-loop μ-loop → tie.After-decoded Inv-loop μ-loop
-decoded c = c .before .before .before .before .before .before .before .before .before .before
+decoded c = let put = c .before .before .before .before in put .before .before .before .before .before .before
 
 add-at : tie.Need-add-at Inv-loop μ-loop
 add-at c = omega (arith, within (decoded c))

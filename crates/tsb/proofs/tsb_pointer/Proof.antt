@@ -11,7 +11,8 @@ use Rattle.tsb.proofs.tsb_pointer.Statement.{statement}
 use Rattle.tsb.proofs.tsb_pointer.Tie as tie
 
 -- what is shifted back does not leave the word
-kept : (c : tie.Start) → (c .args .base / 2 ^ (13 + c .args .base % 16) * 2 ^ (13 + c .args .base % 16)) % 2 ^ 64 ≡ c .args .base / 2 ^ (13 + c .args .base % 16) * 2 ^ (13 + c .args .base % 16)
+kept : (c : tie.Start) → (c .args .base / 2 ^ (13 + c .args .base % 16) * 2 ^ (13 + c .args .base % 16)) % 2 ^ 64 ≡ c .args .base / 2 ^
+    (13 + c .args .base % 16) * 2 ^ (13 + c .args .base % 16)
 kept c = mod-eq-of-lt (omega (arith, split (c .args .base) (13 + c .args .base % 16)))
 
 add-result : tie.Need-add-result

@@ -8,7 +8,8 @@ use Rattle.wire.proofs.four_bytes.Tie as tie
 
 returns : tie.Need-returns
 returns c =
-    let a = c .before .before .before .before .before .before .before .before .before .args in
+    let third = c .before .before .before .before in
+    let a = third .before .before .before .before .before .args in
     (omega (arith, four-sum (a .s .now) (a .at)), omega arith)
 
 pub four-bytes-spec : {M : Type 1} → statement M
