@@ -28,10 +28,6 @@ pub and-right : (a b : Bool) → (a && b) ≡ true → b ≡ true
 and-right true b e = e
 and-right false b e = clash e refl
 
-pub and-no : (a : Bool) → (a && false) ≡ false
-and-no true = refl
-and-no false = refl
-
 pub or-left : (a b : Bool) → (a || b) ≡ false → a ≡ false
 or-left true b e = clash refl e
 or-left false b e = refl
@@ -44,12 +40,6 @@ or-right false b e = e
 pub or-other : (a b : Bool) → (a || b) ≡ true → a ≡ false → b ≡ true
 or-other true b e f = clash refl f
 or-other false b e f = e
-
-pub or-comm : (a b : Bool) → (a || b) ≡ (b || a)
-or-comm true true = refl
-or-comm true false = refl
-or-comm false true = refl
-or-comm false false = refl
 
 -- a result that denies a test, read back
 pub denies-true : {r b : Bool} → r ≡ not b → r ≡ true → b ≡ false

@@ -1,7 +1,7 @@
 -- What a loop over a list knows: a search, a test or a count of the elements from i on, and a rewriting of those before i.
 -- Over any type and any test. Assumes nothing.
 use mathlib.Core.Path.{_≡_, refl, ap, _∙_}
-use mathlib.Core.Bool.{Bool, true, false, not, cond, _&&_, _||_}
+use mathlib.Core.Bool.{Bool, true, false, not, cond, _&&_, _||_, and-false, or-comm}
 use mathlib.Core.List.{List, [], _∷_, map}
 use Prim.Native.Nat.{ℕ, zero, suc, _+_, _≤_, _<_}
 use native.Mathlib.Omega.{arith}
@@ -11,7 +11,7 @@ use lib.Seq.{drop-cons}
 use Rattle.laws.specs.Tests.{tick, count, anyOf, allOf, pairwise, firstFrom, first}
 use Rattle.laws.specs.declared.Found.{Found}
 use Rattle.laws.specs.declared.Found.the-variants.{At, Nothing}
-use Rattle.laws.proofs.Bools.{by-test, and-no, or-comm}
+use Rattle.laws.proofs.Bools.{by-test}
 
 module _ {A : Type 0} (d : A) (s : List A) (i : ℕ) where
   -- ---- the first that passes
@@ -90,7 +90,7 @@ pub pair-drop : {A : Type 0} (f : A → A → Bool) (s : List A) (i : ℕ) → p
 unfolding pairwise
 pair-drop f s zero h = h
 pair-drop f [] (suc i) h = h
-pair-drop f (x ∷ r) (suc i) h = rw (pair-drop f r i h) (and-no (not (anyOf (f x) r)))
+pair-drop f (x ∷ r) (suc i) h = rw (pair-drop f r i h) (and-false (not (anyOf (f x) r)))
 
 -- tests that agree find the same
 pub first-same : {A : Type 0} (p q : A → Bool) → ((x : A) → p x ≡ q x) → (s : List A) (k : ℕ) → firstFrom p k s ≡ firstFrom q k s

@@ -2,7 +2,7 @@
 -- Assumes nothing.
 use Prim.Native.Nat.{ℕ, zero, suc, _+_, _≤_, _<_}
 use mathlib.Core.Path.{_≡_, refl, ap, sym, _∙_}
-use mathlib.Core.Bool.{Bool, true, false, not, _&&_, _||_, or-true, or-false, or-assoc}
+use mathlib.Core.Bool.{Bool, true, false, not, _&&_, _||_, or-true, or-false, or-assoc, or-comm}
 use mathlib.Core.List.{List, [], _∷_}
 use mathlib.Core.Logic.{_⊎_, inl, inr}
 use native.Mathlib.Nat.{le-of-lt}
@@ -13,7 +13,7 @@ use borrow.Author.Tests.{eq-eqb, eqb-true, leb-true, leb-false, not-true}
 use Rattle.laws.specs.Tests.{tick, count, anyOf, pairwise, first}
 use Rattle.laws.specs.declared.Found.{Found}
 use Rattle.laws.specs.declared.Found.the-variants.{At, Nothing}
-use Rattle.laws.proofs.Bools.{by-test, both-ways, clash, and-left, and-right, or-left, or-right, or-other, or-comm}
+use Rattle.laws.proofs.Bools.{by-test, both-ways, clash, and-left, and-right, or-left, or-right, or-other}
 use Rattle.laws.proofs.Counts.{count-set, count-map, count-same, count-one}
 use Rattle.laws.proofs.Walks.{any-at, found-at, found-none}
 use Rattle.machine.specs.Pages.{pageShift, pageStart}

@@ -38,7 +38,8 @@ use Rattle.machine.specs.declared.Trap.{Trap}
 use Rattle.machine.specs.declared.Trap.the-variants as trap
 use Rattle.machine.proofs.Used.{SameSlots}
 use Rattle.machine.proofs.Alike.{Alike}
-use Rattle.machine.proofs.Questions.{address-good, code-bytes, context-picked, alike-registers}
+use Rattle.machine.proofs.Sides.{code-bytes}
+use Rattle.machine.proofs.Questions.{address-good, context-picked, alike-registers}
 use Rattle.machine.proofs.Bytes.{line-answer}
 use Rattle.machine.proofs.State.{allowed-any, strand-sound, kind-side}
 

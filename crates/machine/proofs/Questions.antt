@@ -2,7 +2,7 @@
 -- Assumes nothing.
 use Prim.Native.Nat.{ℕ, suc, _+_, _*_, _-_, _/_, _%_, _^_, _≤_, _<_}
 use mathlib.Core.Path.{_≡_, refl, ap, sym, _∙_}
-use mathlib.Core.Bool.{Bool, true, false, not, cond, _&&_, _||_, and-comm, and-assoc, and-true}
+use mathlib.Core.Bool.{Bool, true, false, not, cond, _&&_, _||_, and-comm, and-assoc, and-true, and-false}
 use mathlib.Core.List.{List, [], _∷_}
 use native.Mathlib.Omega.{arith}
 use native.Mathlib.Nat.{div-add-mod', mod-eq-of-lt, mul-mod-left}
@@ -10,9 +10,9 @@ use lib.Dec.{eqb, leb, ltb, leb·suc-suc}
 use lib.ListN.{length, getD, replicate, List·getD-eq-default}
 use borrow.Author.Tests.{eqb-true, eqb-false, leb-true, ltb-true, ltb-false, eq-eqb, ne-eqb, le-leb, lt-leb, lt-ltb, le-ltb}
 use Rattle.laws.specs.Tests.{tick, allBelow, allOf}
-use Rattle.laws.proofs.Bools.{by-test, both-ways, clash, and-both, and-left, and-right, and-no}
+use Rattle.laws.proofs.Bools.{by-test, both-ways, clash, and-both, and-left, and-right}
 use Rattle.laws.proofs.Belows.{below-at}
-use Rattle.machine.specs.Pages.{inRange, listed, pageShift, pageSize, pageStart}
+use Rattle.machine.specs.Pages.{inRange, listed, pageSize, pageStart}
 use Rattle.machine.specs.Words.{bits, wordSound, wordInsertable}
 use Rattle.machine.specs.Slots.{noSlot}
 use Rattle.machine.specs.Insertion.{entryOf, candidate, hasSlot}
@@ -25,7 +25,7 @@ use Rattle.machine.specs.Questions.{kindSide, selectorFits, nucleusFetch
 use Rattle.machine.specs.Step.{act}
 use Rattle.machine.specs.Tsb.{tsbOffset, tsbPointer, pointer}
 use Rattle.machine.specs.Stream.{answerBytes}
-use Rattle.machine.specs.Ledger.{Ledger, start, writes, codeBytes, pageBytes, codeListed, addressGood, wordGood}
+use Rattle.machine.specs.Ledger.{Ledger, start, writes, pageBytes, codeListed, addressGood, wordGood}
 use Rattle.machine.specs.Ledger.{registerKnown, registerWritable, valueGood, contextPicked, tagOf, line}
 use Rattle.machine.specs.Ledger.{newEntry, firstNo, selectorGood, questions, pointerOf, pointers}
 use Rattle.machine.specs.Frame.{entryIn}
@@ -39,6 +39,7 @@ use Rattle.machine.specs.declared.Refusal.the-variants as refusal
 use Rattle.machine.specs.declared.Verdict.{Verdict}
 use Rattle.machine.specs.declared.Verdict.the-variants.{Passed, Refused}
 use Rattle.machine.specs.declared.Answer.the-variants as answer
+use Rattle.machine.proofs.Sides.{code-bytes}
 use Rattle.machine.proofs.Sound.{owner-parts}
 use Rattle.machine.proofs.State.{register-written, registers-written, sound-file, strand-sound}
 use Rattle.machine.proofs.State.{configuration-listed, sound-registers, reset-sound, passed-asked, known-below}
@@ -82,22 +83,13 @@ address-good a =
     by-test (ltb a (2 ^ 47))
     (λ e. rw (e, lt-leb (2 ^ 47) a (ltb-true _ _ e), lt-ltb a (2 ^ 64) (omega (arith, ltb-true))))
     (λ e. rw (e, le-leb (2 ^ 47) a (ltb-false _ _ e)) (by-test (ltb a high)
-    (λ f. rw (f, lt-leb high a (ltb-true _ _ f)) (and-no (ltb a (2 ^ 64))))
+    (λ f. rw (f, lt-leb high a (ltb-true _ _ f)) (and-false (ltb a (2 ^ 64))))
     (λ f. rw (f, le-leb high a (ltb-false _ _ f)) (and-true (ltb a (2 ^ 64))))))
 
 -- size codes
 pub code-listed : (code : ℕ) → codeListed code ≡ listed code
 unfolding listed
 code-listed code = refl
-
-pub code-bytes : (code : ℕ) → listed code ≡ true → codeBytes code ≡ pageSize code
-unfolding listed pageShift
-code-bytes code h =
-    by-test (eqb code 0) (λ e. rw e) (λ e0.
-    by-test (eqb code 1) (λ e. rw (e0, e)) (λ e1.
-    by-test (eqb code 3) (λ e. rw (e0, e1, e)) (λ e3.
-    let e5 : eqb code 5 ≡ true = rw (e0, e1, e3) at h in
-    rw (e0, e1, e3, e5))))
 
 -- a sound word's page
 pub page-bytes : (word : ℕ) → wordSound word ≡ true → pageBytes word ≡ pageSize (word % 2 ^ 4)

@@ -2,7 +2,7 @@
 -- Assumes nothing.
 use Prim.Native.Nat.{ℕ, zero, suc, _+_, _*_, _-_, _/_, _%_, _^_, _≤_, _<_}
 use mathlib.Core.Path.{_≡_, refl, ap, sym, _∙_}
-use mathlib.Core.Bool.{Bool, true, false, not, _&&_, _||_, Bool·beq, and-assoc}
+use mathlib.Core.Bool.{Bool, true, false, not, _&&_, _||_, Bool·beq, and-assoc, and-false}
 use mathlib.Core.List.{List, [], _∷_, _++_}
 use mathlib.Core.Option.{none, some}
 use native.Mathlib.Omega.{arith}
@@ -14,7 +14,7 @@ use borrow.Author.Tests.{eqb-true, eqb-false, eq-eqb, lt-ltb, ltb-true, ltb-fals
 use Rattle.laws.specs.Tests.{tick, count, anyOf, allOf, first}
 use Rattle.laws.specs.Passing.{nonePasses, without, find}
 use Rattle.laws.specs.declared.Found.the-variants.{At, Nothing}
-use Rattle.laws.proofs.Bools.{by-test, clash, both-ways, and-both, and-left, and-right, and-no}
+use Rattle.laws.proofs.Bools.{by-test, clash, both-ways, and-both, and-left, and-right}
 use Rattle.laws.proofs.Counts.{count-append, count-passing, count-none, count-all, count-rest, count-at, count-one, count-le, none-count}
 use Rattle.laws.proofs.Walks.{found-at, found-none}
 use Rattle.laws.proofs.Finds.{count-index, find-zero, find-only, removed-once, count-where, zero-none, without-none, how-many}
@@ -69,9 +69,9 @@ ruleset conj = (and-left, and-right, eqb-true, same-true)
 
 -- ---- a slot and its entry
 -- a listed code's page has the ledger's bytes
-bytes-size : (code : ℕ) → listed code ≡ true → codeBytes code ≡ pageSize code
+pub code-bytes : (code : ℕ) → listed code ≡ true → codeBytes code ≡ pageSize code
 unfolding listed pageShift
-bytes-size code h =
+code-bytes code h =
     by-test (eqb code 0) (λ e. rw e) (λ e0.
     by-test (eqb code 1) (λ e. rw (e0, e)) (λ e1.
     by-test (eqb code 3) (λ e. rw (e0, e1, e)) (λ e3.
@@ -84,7 +84,7 @@ unfolding wordSound
 reaches-holds x h l a =
     let k : ℕ = pageShift (sizeCode x) in
     let w : wordSound (x .word) ≡ true = live-parts x h l .word in
-    let b : pageBytes (x .word) ≡ 2 ^ k = bytes-size (sizeCode x) (search conj) in
+    let b : pageBytes (x .word) ≡ 2 ^ k = code-bytes (sizeCode x) (search conj) in
     let start : x .page / 2 ^ k * 2 ^ k ≡ x .page = live-parts x h l .start in
     rw b (both-ways (leb (x .page) a && ltb a (x .page + 2 ^ k)) (holds x a)
     (λ r.
@@ -293,7 +293,7 @@ module _ {n : ℕ} {s : List Slot} {m : List Entry} (h : SideAlike n s m) where
   count-spared : {q : Slot → Bool} {p : Entry → Bool} → SameTest q p → (r : Entry → Bool) → count (λ x. not (q x) && hit r x) s ≡ count r (without p m)
   count-spared {q} {p} t r =
       count-where slotSound _ (hit (λ e. not (p e) && r e)) s all-sound
-      (λ x k. by-test (isLive x) (λ l. rw (l, t .agree x k l)) (λ l. rw l (and-no (not (q x)))))
+      (λ x k. by-test (isLive x) (λ l. rw (l, t .agree x k l)) (λ l. rw l (and-false (not (q x)))))
       ∙ h .same _ ∙ sym (count-passing r _ m)
 
   pub alike-removed : {q : Slot → Bool} {p : Entry → Bool} → SameTest q p → SideAlike n (removed q s) (without p m)

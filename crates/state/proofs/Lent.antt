@@ -13,13 +13,12 @@ use Rattle.machine.specs.Registers.{registersSound}
 use Rattle.machine.specs.State.{counts, slotCount, stateOf, stateIn, sideOf, wordsSound}
 use Rattle.machine.specs.declared.Slot.{Slot}
 use Rattle.state.specs.Calls.{Lent, onSide}
-use Rattle.state.proofs.Parts.{sized-words, side-length, side-read, side-stored, sound-parts}
+use Rattle.state.proofs.Parts.{sized-words, sized-side, side-length, side-read, side-stored, sound-parts}
 
 -- either side has 64 slots
 pub side-slots : (words : List ℕ) → Lent words → (side : ℕ) → length (sideOf (stateIn words) side) ≡ 64
 side-slots words l side =
-    let z = sized-words counts words l in
-    by-test (eqb side 0) (λ e. rw e (z .1)) (λ e. rw e (z .2))
+    sized-side counts (stateIn words) (sized-words counts words l) side ∙ by-test (eqb side 0) (λ e. rw e) (λ e. rw e)
 
 abbrev part : List ℕ → ℕ → List ℕ
 part words a = take (a + 256 - a) (drop a words)

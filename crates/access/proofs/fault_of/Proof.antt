@@ -1,12 +1,12 @@
 -- `access::fault_of` meets its contract.
 use Prim.Native.Nat.{ℕ}
 use mathlib.Core.Path.{_≡_, sym, _∙_}
-use mathlib.Core.Bool.{true, not, _&&_}
+use mathlib.Core.Bool.{true, not, _&&_, and-false}
 use native.Mathlib.Omega.{arith}
 use lib.Dec.{eqb}
 use borrow.Author.Needs.{needs}
 use borrow.Author.Tests.{eqb-true, not-true}
-use Rattle.laws.proofs.Bools.{and-left, and-right, and-no}
+use Rattle.laws.proofs.Bools.{and-left, and-right}
 use Rattle.machine.specs.Words.{bits}
 use Rattle.machine.specs.Access.{faultType}
 use Rattle.access.specs.Faults.{isSet, faultless}
@@ -25,8 +25,8 @@ none mode kind word h =
       not-true (isSet word 11) (and-left (not (isSet word 11)) _ i),
       not-true (isSet word 62) (and-left (not (isSet word 62)) _ h),
       cp,
-      and-no (eqb kind 3),
-      and-no (eqb kind 4),
+      and-false (eqb kind 3),
+      and-false (eqb kind 4),
     )
 
 returns : tie.Need-returns
