@@ -28,7 +28,7 @@ fn owned_by(x: Slot, owner: u64) -> bool
 pub fn answers(x: Slot, key: Key) -> bool
     ensures { λ r. ⌜ r ≡ answersTo key x ⌝ }
 {
-    tlb::is_live(x) && (x.owner == tlb::key_owner(key) && tlb::holds(x, tlb::key_address(key)))
+    x.owner == tlb::key_owner(key) && (tlb::holds(x, tlb::key_address(key)) && tlb::is_live(x))
 }
 
 // A partition's unlocked entry.
