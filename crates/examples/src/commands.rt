@@ -39,10 +39,6 @@ const PHYSICAL: u8 = 1;
 
 pub const DISPLACED: u8 = 4;
 
-const ANSWER_WIDTH: usize = 24;
-
-pub const STATE_WORDS: usize = 640;
-
 // A page address plus a context, as in tag access: the context is below this.
 const CONTEXTS: u64 = 0x2000;
 
@@ -81,7 +77,7 @@ fn four(a: u8, b: u8, c: u8, d: u8) -> u64
 
 // Runs a command and reads its answer. The first value of these examples has no more than four bytes.
 fn answer_to(state: &mut [u64], command: &[u8]) -> Reply {
-    let mut output = [0u8; ANSWER_WIDTH];
+    let mut output = [0u8; machine::ANSWER_BYTES];
     stream::run(state, command, &mut output);
     Reply {
         kind: output[0],

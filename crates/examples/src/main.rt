@@ -104,9 +104,9 @@ fn print_side(slots: &mut [u64])
 
 // Document 01's seventh example: an 8 KB page, and then the 64 KB page around it, each in the context given.
 fn overlap(first: u64, second: u64) {
-    let mut side = [0u64; 256];
+    let mut side = [0u64; machine::SIDE_WORDS];
     let slots: &mut [u64] = &mut side;
-    let mut words = [0u64; commands::STATE_WORDS];
+    let mut words = [0u64; machine::STATE_WORDS];
     let state: &mut [u64] = &mut words;
     let small = entry(key(first, 0x40_2000), 0);
     let large = entry(key(second, 0x40_0000), 1);
@@ -174,9 +174,9 @@ fn insertions(slots: &mut [u64], state: &mut [u64])
 
 // Document 01's eighth example: a side is filled with 64 unlocked entries, and two more displace those of slots 0 and 1.
 fn displacement() {
-    let mut side = [0u64; 256];
+    let mut side = [0u64; machine::SIDE_WORDS];
     let slots: &mut [u64] = &mut side;
-    let mut words = [0u64; commands::STATE_WORDS];
+    let mut words = [0u64; machine::STATE_WORDS];
     let state: &mut [u64] = &mut words;
     let first = entry(numbered(1), 0);
     let last = entry(numbered(66), 0);

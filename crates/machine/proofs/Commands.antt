@@ -136,8 +136,11 @@ insertion-says {n} {s} {m} h new k l = go (placed candidate new s) refl
     go Done f = record {
       displaced = (λ z. absurd (omega arith), λ z. clash (and-both _ _ (eq-eqb _ _ (z .0)) (eq-eqb _ _ (z .1))) (alike-done h new k l f .0));
       named = λ z. absurd (omega arith);
-      refused = (λ z. absurd (omega (arith, answer-kind z, line-kind 5 13 0 0 0 0)), λ z. clash
-          (and-both _ _ (eq-eqb _ _ (z .0)) (eq-eqb _ _ (z .2))) (alike-done h new k l f .0));
+      refused = (
+        λ z. absurd (omega (arith, answer-kind z, line-kind 5 13 0 0 0 0)),
+        λ z. clash
+            (and-both _ _ (eq-eqb _ _ (z .0)) (eq-eqb _ _ (z .2))) (alike-done h new k l f .0),
+      );
     }
     go (Displaced x) f =
         let w : DisplacedSays n new s m x = alike-displaced h new k l x f in

@@ -69,5 +69,10 @@ leb-ltb a b = by-test (ltb b a) (λ e. rw e (lt-leb a b (ltb-true b a e))) (λ e
 pub range-start : (code a : ℕ) → inRange (pageStart code a) ≡ inRange a
 unfolding inRange
 range-start code a =
-    rw (leb-ltb (2 ^ 64 - 2 ^ 47) (pageStart code a), leb-ltb (2 ^ 64 - 2 ^ 47) a, below-start code a (2 ^ 19), below-start code a (2 ^ 36 - 2 ^ 19),
-    below-start code a (2 ^ 36))
+    rw (
+      leb-ltb (2 ^ 64 - 2 ^ 47) (pageStart code a),
+      leb-ltb (2 ^ 64 - 2 ^ 47) a,
+      below-start code a (2 ^ 19),
+      below-start code a (2 ^ 36 - 2 ^ 19),
+      below-start code a (2 ^ 36),
+    )

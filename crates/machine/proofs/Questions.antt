@@ -381,8 +381,12 @@ module _ {n : Counts} {u : State} {l : Ledger} (a : Alike n u l) where
   pointer-alike strand side size s d z =
       let context : ℕ = tagContext (tagAccess (u .registers) strand side) in
       let o : kindSide context < 2 = kind-side context in
-      rw (tag-access a strand s side d, a .registers strand (baseNumber side context size) s (omega arith), a .registers strand
-      (configurationNumber side context) s (omega arith))
+      rw (
+        tag-access a strand s side d,
+        a .registers strand (baseNumber side context size) s (omega arith),
+        a .registers strand
+            (configurationNumber side context) s (omega arith),
+      )
       (pointer-of _ _ _ (configuration-listed (u .registers) strand (configurationNumber side context) size (a .allowed) s (omega arith) (omega arith) z))
 
   pub pointers-bytes : (strand side : ℕ) → verdict u (command.Pointers strand side) ≡ Passed
@@ -393,8 +397,13 @@ module _ {n : Counts} {u : State} {l : Ledger} (a : Alike n u l) where
       let s : strand < 4 = search conj in
       let d : side < 2 = search conj in
       let whole : (x : ℕ) → x / 2 ^ 0 ≡ x = λ x. omega arith in
-      rw (pointer-alike strand side 0 s d (omega arith), pointer-alike strand side 1 s d (omega arith), round-down (tagOf l strand side) 8192, whole
-      (l .registers strand (configurationNumber side (tagContext (tagOf l strand side)))))
+      rw (
+        pointer-alike strand side 0 s d (omega arith),
+        pointer-alike strand side 1 s d (omega arith),
+        round-down (tagOf l strand side) 8192,
+        whole
+            (l .registers strand (configurationNumber side (tagContext (tagOf l strand side)))),
+      )
       (line-answer 3 _ _ (omega arith) (omega arith) (omega arith))
 
 pub write-bytes : (u : State) (strand number value : ℕ) → answerBytes (act u (command.Write strand number value) .answer) ≡ line 0 0 0 0 0 0
@@ -450,5 +459,12 @@ insertion-entry {u} {l} a strand side flags word s d f h =
     let tag : ℕ = tagAccess (u .registers) strand side in
     entry-in (flagReal flags) (partition (u .registers) strand) (tagContext tag) (tagAddress tag) (flagLocked flags) word
     (strand-sound (u .registers) strand (a .allowed) s .partitions) (omega arith)
-    ∙ rw (tag-address a strand s side d, tag-access a strand s side d, a .registers strand 0 s (omega arith), page-bytes word h, round-down
-    (tagAddress tag .0) (pageSize (word % 2 ^ 4)), flag-locked flags f)
+    ∙ rw (
+      tag-address a strand s side d,
+      tag-access a strand s side d,
+      a .registers strand 0 s (omega arith),
+      page-bytes word h,
+      round-down
+          (tagAddress tag .0) (pageSize (word % 2 ^ 4)),
+      flag-locked flags f,
+    )

@@ -99,8 +99,16 @@ allowed-high : (number value : ℕ) → 16 ≤ number
 unfolding allowed
 allowed-high number value h =
     let past : (k : ℕ) → k ≤ 16 → ltb number k ≡ false = λ k l. le-ltb number k (omega arith) in
-    rw (past 1 (omega arith), past 3 (omega arith), past 4 (omega arith), past 5 (omega arith), past 6 (omega arith), past 8 (omega arith), past 16
-    (omega arith))
+    rw (
+      past 1 (omega arith),
+      past 3 (omega arith),
+      past 4 (omega arith),
+      past 5 (omega arith),
+      past 6 (omega arith),
+      past 8 (omega arith),
+      past 16
+          (omega arith),
+    )
 
 -- any value, in tag access and the registers that a trap writes
 pub allowed-any : (number value : ℕ) → 20 ≤ number → number < 26 → allowed number value ≡ true

@@ -46,7 +46,7 @@ fn print_answers(output: &[u8], answered: usize)
 {
     let mut i = 0;
     while i < answered {
-        let line = spell(output, i * 24);
+        let line = spell(output, i * machine::ANSWER_BYTES);
         io::write_all(1, &line);
         i += 1;
     }
@@ -65,7 +65,7 @@ fn print_end(answered: usize, taken: usize, stop: u8) {
 fn main() {
     let mut input = [0u8; 4096];
     let mut output = [0u8; 49152];
-    let mut words = [0u64; 640];
+    let mut words = [0u64; machine::STATE_WORDS];
     let n = io::read_full(0, &mut input);
     state::reset(&mut words);
     let ran = stream::run(&mut words, &input[..n], &mut output);

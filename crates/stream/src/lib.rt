@@ -24,7 +24,7 @@ pub fn run(state: &mut [u64], input: &[u8], output: &mut [u8]) -> Report
     let mut answered = 0;
     while at < input.len() {
         // The room is asked for before the decoding: the decoder's arms then lead straight into the unit's.
-        if output.len() / 24 <= answered {
+        if output.len() / machine::ANSWER_BYTES <= answered {
             return Report {
                 answered,
                 taken: at,
@@ -40,7 +40,7 @@ pub fn run(state: &mut [u64], input: &[u8], output: &mut [u8]) -> Report
             };
         };
         let answer = mmu::execute(state, &mut hints, command);
-        wire::put_answer(output, answered * 24, answer);
+        wire::put_answer(output, answered * machine::ANSWER_BYTES, answer);
         at += width;
         answered += 1;
     }

@@ -30,7 +30,7 @@ pub extern "C" fn t1mmu_state_words() -> usize
     ensures equal { λ r. ⌜ r ≡ stateLength ⌝ }
     ensures told { λ r. ⌜ r ≡ length (referenceWords (referenceStart slots)) ⌝ }
 {
-    640
+    machine::STATE_WORDS
 }
 
 // Fills a state: mode 2, all else 0. A state of another length is left as it is, and the answer is 1.

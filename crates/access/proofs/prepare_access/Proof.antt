@@ -14,9 +14,17 @@ returns-2 : tie.Need-returns-2
 unfolding prepare
 returns-2 c =
     let read = c .before .before in
-    let one = read .before in
-    (rw (← (one .before .aligned .ensures), one .if1 .left, ← (read .read-register .ensures), ← (c .before .is-user-nucleus .ensures), c .if2
-    .taken), (omega arith, tt))
+    let one = read .before in (
+      rw (
+        ← (one .before .aligned .ensures),
+        one .if1 .left,
+        ← (read .read-register .ensures),
+        ← (c .before .is-user-nucleus .ensures),
+        c .if2
+            .taken,
+      ),
+      (omega arith, tt),
+    )
 
 returns-3 : tie.Need-returns-3
 unfolding prepare

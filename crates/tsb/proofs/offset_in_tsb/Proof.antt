@@ -20,8 +20,11 @@ mul-result : tie.Need-mul-result
 unfolding tsbOffset
 mul-result c =
     let n = c .before .args .n in
-    rw (c .page-shift .ensures, tsb-entries n (c .before .pre)) (omega (arith, offset-below n (c .before .args .code) (c .before .args .address),
-    pow-mono {i = 13 + n} {j = 64} (omega arith)))
+    rw (c .page-shift .ensures, tsb-entries n (c .before .pre)) (omega (
+      arith,
+      offset-below n (c .before .args .code) (c .before .args .address),
+      pow-mono {i = 13 + n} {j = 64} (omega arith),
+    ))
 
 returns : tie.Need-returns
 unfolding tsbOffset
