@@ -9,7 +9,7 @@ need() {
         missing=1
         case $tool in
         rt) echo "missing: rt, the command of the Rattle toolchain; the toolchain's bin folder has to be in PATH" ;;
-        cargo) echo "missing: cargo, which comes with Rust (rustup.rs, or Debian's package cargo)" ;;
+        cargo) echo "missing: cargo, which comes with Rust (Debian's package cargo)" ;;
         *) echo "missing: $tool (Debian's package $tool)" ;;
         esac >&2
     done
