@@ -1,4 +1,4 @@
-// What a command's operands and a strand's registers pick: sides, contexts, keys, new entries, and an access.
+// What a command's operands and a strand's registers pick: sides, contexts, keys and new entries.
 ghost use mathlib.Core.Path.{_≡_};
 ghost use Prim.Native.Nat.{_<_};
 ghost use Rattle.machine.specs.Registers.{selected, tagAccess, tagAddress, tagContext};
