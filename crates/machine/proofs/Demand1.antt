@@ -1,6 +1,8 @@
 -- Demand 1 is met. Assumes nothing.
+use Prim.Native.Nat.{ℕ, _≤_}
 use mathlib.Core.Path.{_≡_, refl, sym, _∙_}
 use mathlib.Core.Bool.{true, false, not}
+use mathlib.Core.List.{List}
 use native.Mathlib.Omega.{arith}
 use lib.Dec.{eqb}
 use lib.ListN.{getD}
@@ -10,13 +12,14 @@ use Rattle.laws.specs.declared.Found.{Found}
 use Rattle.laws.specs.declared.Found.the-variants.{At, Nothing}
 use Rattle.laws.proofs.Bools.{by-test, clash, and-left, and-right}
 use Rattle.machine.specs.Slots.{noSlot, answersTo}
-use Rattle.machine.specs.Insertion.{candidate, placed, hasSlot}
-use Rattle.machine.specs.State.{Counts, slotCount, State, sideOf, stateOf, encode}
-use Rattle.machine.specs.Questions.{insertion, asked, verdict}
-use Rattle.machine.specs.Access.{prepare, judge, settleJudged, settleFound, settle}
-use Rattle.machine.specs.Step.{placedAnswer, act, stepBy, step}
-use Rattle.machine.specs.Stream.{answerBytes}
-use Rattle.machine.specs.Ledger.{line, firstNo, questions, enters}
+use Rattle.machine.specs.Insertion.{candidate, placed}
+use Rattle.machine.specs.State.{Counts, slotCount, State, sideOf, stateOf, encode, wordsSound}
+use Rattle.machine.specs.Questions.{insertion, askedInsertion, asked, ask, verdict}
+use Rattle.machine.specs.Access.{Stepped, prepare, judge, settleJudged, settleFound, settle}
+use Rattle.machine.specs.Step.{placedAnswer, act, stepBy, step, insertStep}
+use Rattle.machine.specs.Stream.{Bytes, answerBytes}
+use Rattle.machine.specs.Serve.{servedOf}
+use Rattle.machine.specs.Ledger.{line, firstNo, questions, enters, Miss}
 use Rattle.machine.specs.Places.{Reference, referenceWords}
 use Rattle.machine.specs.Demand3.{unitBytes}
 use Rattle.machine.specs.Good.{ReferenceGood}
@@ -30,47 +33,54 @@ use Rattle.machine.specs.declared.Placed.{Placed}
 use Rattle.machine.specs.declared.Placed.the-variants.{Done, Displaced, Refused}
 use Rattle.machine.specs.declared.Command.{Command}
 use Rattle.machine.specs.declared.Command.the-variants as command
+use Rattle.machine.specs.declared.Refusal.the-variants as refusal
+use Rattle.machine.specs.declared.Answer.the-variants as answer
 use Rattle.machine.specs.declared.Verdict.{Verdict}
 use Rattle.machine.specs.declared.Verdict.the-variants as verdicts
 use Rattle.machine.proofs.Insertion.{isRefused, slot-had}
-use Rattle.machine.proofs.State.{passed-asked, sound-encode}
+use Rattle.machine.proofs.State.{Insertable, insertable, insert-insertable, sound-encode}
 use Rattle.machine.proofs.Runs.{run-past, run-unsound}
 use Rattle.machine.proofs.Demand3.{step-says, alike-sound, alike-words}
-use Rattle.machine.proofs.Good.{stateFor, good-alike, described}
+use Rattle.machine.proofs.Good.{stateFor, good-alike, state-alike, unsound-words}
+use Rattle.machine.proofs.Misses.{MissAlike, refuses, lacks, inserts, miss-alike}
 
 ruleset conj = (and-left, and-right)
 
 -- ---- a command that was not refused does not say so
-judged-kind : (u : State) (a : Access) (j : Judged) → getD (answerBytes (settleJudged u a j .answer)) 0 0 ≡ 5 → ⊥
+judged-kind : (u : State) (a : Access) (j : Judged) → 5 ≤ getD (answerBytes (settleJudged u a j .answer)) 0 0 → ⊥
 unfolding answerBytes
 judged-kind u a (judged.Faulted t) h = omega arith
 judged-kind u a (judged.Translated p) h = omega arith
 
-found-kind : (u : State) (a : Access) (f : Found) → getD (answerBytes (settleFound u a f .answer)) 0 0 ≡ 5 → ⊥
+found-kind : (u : State) (a : Access) (f : Found) → 5 ≤ getD (answerBytes (settleFound u a f .answer)) 0 0 → ⊥
 unfolding answerBytes
 found-kind u a Nothing h = omega arith
 found-kind u a (At i) h = judged-kind _ a (judge (u .registers) a (getD (sideOf u (a .side)) i noSlot .word)) h
 
-settled-kind : (u : State) (a : Access) (p : Prepared) → getD (answerBytes (settle u a p .answer)) 0 0 ≡ 5 → ⊥
+settled-kind : (u : State) (a : Access) (p : Prepared) → 5 ≤ getD (answerBytes (settle u a p .answer)) 0 0 → ⊥
 unfolding answerBytes
 settled-kind u a (prepared.Stopped t tag) h = omega arith
 settled-kind u a (prepared.Bypass p) h = omega arith
 settled-kind u a (prepared.Lookup key) h = found-kind u a (first (answersTo key) (sideOf u (a .side))) h
 
-placed-kind : (r : Placed) → not (isRefused r) ≡ true → getD (answerBytes (placedAnswer r)) 0 0 ≡ 5 → ⊥
+placed-kind : (r : Placed) → not (isRefused r) ≡ true → 5 ≤ getD (answerBytes (placedAnswer r)) 0 0 → ⊥
 unfolding answerBytes
 placed-kind Done t h = omega arith
 placed-kind (Displaced x) t h = omega arith
 placed-kind Refused t h = clash t refl
 
-passed-kind : (u : State) (c : Command) → verdict u c ≡ verdicts.Passed → getD (answerBytes (act u c .answer)) 0 0 ≡ 5 → ⊥
+insert-kind : (u : State) (strand side flags word : ℕ) → Insertable u strand side flags word
+    → 5 ≤ getD (answerBytes (act u (command.Insert strand side flags word) .answer)) 0 0 → ⊥
+unfolding act
+insert-kind u strand side flags word i h =
+    let new = insertion u strand side flags word in
+    placed-kind (placed candidate new (sideOf u side)) (sym (slot-had candidate new (sideOf u side)) ∙ i .slot) h
+
+passed-kind : (u : State) (c : Command) → verdict u c ≡ verdicts.Passed → 5 ≤ getD (answerBytes (act u c .answer)) 0 0 → ⊥
 unfolding answerBytes act asked allOf
 passed-kind u (command.Write strand number value) v h = omega arith
 passed-kind u (command.Insert strand side flags word) v h =
-    let q = passed-asked u (command.Insert strand side flags word) v in
-    let new = insertion u strand side flags word in
-    let y : hasSlot candidate new (sideOf u side) ≡ true = search conj in
-    placed-kind (placed candidate new (sideOf u side)) (sym (slot-had candidate new (sideOf u side)) ∙ y) h
+    insert-kind u strand side flags word (insert-insertable u strand side flags word v .2) h
 passed-kind u (command.DemapPage strand side selector flags address) v h = omega arith
 passed-kind u (command.DemapContext strand side selector) v h = omega arith
 passed-kind u (command.DemapAll strand side) v h = omega arith
@@ -84,8 +94,26 @@ unfolding step
 refusal-leaves u c = go (verdict u c) refl
   where
     go : (v : Verdict) → verdict u c ≡ v → getD (answerBytes (stepBy v u c .answer)) 0 0 ≡ 5 → stepBy v u c .state ≡ u
-    go verdicts.Passed e h = absurd (passed-kind u c e h)
+    go verdicts.Passed e h = absurd (passed-kind u c e (omega arith))
     go (verdicts.Refused r) e h = refl
+
+-- ---- a served miss
+inserted-leaves : (u : State) (strand side word : ℕ) → 5 ≤ getD (answerBytes (insertStep u strand side 0 word .answer)) 0 0
+    → insertStep u strand side 0 word .state ≡ u
+unfolding insertStep
+inserted-leaves u strand side word = go (ask (askedInsertion u strand side 0 word)) refl
+  where
+    c : Command
+    c = command.Insert strand side 0 word
+
+    go : (v : Verdict) → ask (askedInsertion u strand side 0 word) ≡ v → 5 ≤ getD (answerBytes (stepBy v u c .answer)) 0 0 → stepBy v u c .state ≡ u
+    go verdicts.Passed e h = absurd (insert-kind u strand side 0 word (insertable u strand side 0 word e) h)
+    go (verdicts.Refused r) e h = refl
+
+miss-leaves : (u : State) (strand side : ℕ) {m : Miss} {t : Stepped} → MissAlike u strand side m t → 5 ≤ getD (answerBytes (t .answer)) 0 0 → t .state ≡ u
+miss-leaves u strand side (refuses r) h = refl
+miss-leaves u strand side lacks h = refl
+miss-leaves u strand side (inserts word s d) h = inserted-leaves u strand side word h
 
 number-told : (n : Counts) (k : Reference) → ReferenceGood (slotCount n) k → (c : Command) → (firstNo (questions (k .ledger) c) ≡ 0 → ⊥)
     → unitBytes (stateOf n (referenceWords k)) c ≡ line 5 (firstNo (questions (k .ledger) c)) 0 0 0 0
@@ -96,10 +124,17 @@ number-told n k g c e =
     let t : eqb (firstNo (questions (k .ledger) c)) 0 ≡ false = ne-eqb _ 0 e in
     rw (← (alike-words h), back) (sym (rw t at (step-says n (stateFor n k g) k c h .bytes)))
 
+unsound-served : (n : Counts) (words : List ℕ) (strand side : ℕ) (ofZero ofOther : Bytes) → wordsSound n words ≡ false
+    → servedOf n words strand side ofZero ofOther ≡ record { words = words; answer = answer.Refused refusal.State }
+unfolding servedOf
+unsound-served n words strand side ofZero ofOther e = rw e
+
 pub demand1 : Demand1
 demand1 = record {
-  unsound = λ n words input output f. by-test _ (λ e. absurd (f (described n .sound words .0 e))) (run-unsound n words input output);
+  unsound = λ n words input output f. run-unsound n words input output (unsound-words n words f);
   refused = refusal-leaves;
   numbered = number-told;
+  missUnsound = λ n words strand side ofZero ofOther f. unsound-served n words strand side ofZero ofOther (unsound-words n words f);
+  missRefused = λ n u strand side ofZero ofOther s. miss-leaves u strand side (miss-alike (state-alike n u s .ledger) strand side ofZero ofOther);
   past = λ n words input output. by-test _ (run-past n words input output) (λ e. rw (run-unsound n words input output e));
 }

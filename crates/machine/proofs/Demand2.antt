@@ -107,6 +107,7 @@ isPhysical (answer.Trap t) = false
 isPhysical (answer.Read v w) = false
 isPhysical (answer.Displaced d) = false
 isPhysical (answer.Refused r) = false
+isPhysical answer.NotInTable = false
 
 no-address : {C : Type 0} {x : Answer} {t : Translation} → isPhysical x ≡ false → x ≡ answer.Physical t → C
 no-address f e = clash (ap isPhysical e) f

@@ -7,7 +7,7 @@ use native.Mathlib.Omega.{arith}
 use lib.Dec.{eqb}
 use lib.ListN.{length, getD, take, drop, replicate, length-append, List·getD-append}
 use lib.Seq.{ext-getD, getD-at}
-use borrow.Author.Tests.{eq-eqb, ne-eqb, eqb-true, eqb-false, leb-true, ltb-true}
+use borrow.Author.Tests.{eq-eqb, ne-eqb, eqb-true, eqb-false, leb-true, ltb-true, le-leb, lt-ltb}
 use Rattle.laws.specs.Tests.{allOf}
 use Rattle.laws.proofs.Bools.{by-test, and-both, and-left, and-right}
 use Rattle.machine.specs.State.{Counts, slotCount, State, sideOf, stateOf, encode, reset, sideFits, sound, wordsSound}
@@ -17,19 +17,25 @@ use Rattle.machine.specs.Slots.{noSlot, isLive}
 use Rattle.machine.specs.Insertion.{candidate, hasSlot, placed}
 use Rattle.machine.specs.Sound.{slotSound}
 use Rattle.machine.specs.Registers.{registerWords}
-use Rattle.machine.specs.Questions.{flagLocked, insertion, asked, verdict}
-use Rattle.machine.specs.Step.{placedAnswer, act, step}
+use Rattle.machine.specs.Questions.{flagLocked, insertion, askedInsertion, asked, ask, verdict}
+use Rattle.machine.specs.Step.{placedAnswer, act, stepBy, step, insertStep}
+use Rattle.machine.specs.Access.{Stepped}
 use Rattle.machine.specs.Stream.{Bytes, Taken, answerBytes, after, answersBytes, runOf}
-use Rattle.machine.specs.Ledger.{Ledger, line, Written, nameIn, addressGood, wordGood, tagOf, newEntry, firstNo}
-use Rattle.machine.specs.Ledger.{questions, lacksSlot, inserts, does, enters}
-use Rattle.machine.specs.Demand3.{unitBytes, fed, fedNext, fedAfter, ledgerBytes, Says, SaysOf, CommandsSay, RunSays, Event, run, EventsSay, Demand3}
+use Rattle.machine.specs.Serve.{servedOf}
+use Rattle.machine.specs.Serve as unit
+use Rattle.machine.specs.Ledger.{Ledger, line, Written, Name, nameIn, addressGood, wordGood, tagOf, newEntry, firstNo}
+use Rattle.machine.specs.Ledger.{insertionQuestions, questions, lacksSlot, does, enters, entersInsertion, Miss, miss}
+use Rattle.machine.specs.Ledger as ledger
+use Rattle.machine.specs.Demand3.{unitBytes, fed, fedNext, fedAfter, ledgerBytes, InsertionSays, Says, SaysOf, CommandsSay}
+use Rattle.machine.specs.Demand3.{RunSays, ServeSays, Event, run, serve, EventSays, EventsSay, Demand3}
 use Rattle.machine.specs.Frame.{entryIn}
-use Rattle.machine.specs.Places.{Place, empty, Reference, moved, placesAfter, referenceStart, row, referenceWords}
+use Rattle.machine.specs.Places.{Place, empty, Reference, moved, placesAfter, placesInserted, missTold, referenceStart, row, referenceWords}
 use Rattle.machine.specs.Format.{Reading, ReadAs}
 use Rattle.machine.specs.Views.{view}
 use Rattle.machine.specs.declared.Slot.{Slot}
 use Rattle.machine.specs.declared.Placed.{Placed}
 use Rattle.machine.specs.declared.Refusal.the-variants as refusal
+use Rattle.machine.specs.declared.Answer.the-variants as answer
 use Rattle.machine.specs.declared.Command.{Command}
 use Rattle.machine.specs.declared.Command.the-variants as command
 use Rattle.machine.specs.declared.Verdict.{Verdict}
@@ -43,9 +49,11 @@ use Rattle.machine.proofs.Alike.{SideAlike, Alike, placeIn, PlacesAlike
 use Rattle.machine.proofs.Used.{new-used}
 use Rattle.machine.proofs.Places.{inserted-side, places-with, side-words}
 use Rattle.machine.proofs.Sides.{alike-empty, alike-lacks}
-use Rattle.machine.proofs.Questions.{verdictNumber, same-number, number-passed, number-refused, slotLeft}
+use Rattle.machine.proofs.Questions.{verdictNumber, same-number, number-passed, number-refused, slotLeft, insertion-number}
 use Rattle.machine.proofs.Questions.{refused-alike, passed-alike, refused-bytes, reset-alike, tag-address}
 use Rattle.machine.proofs.Questions.{address-good, word-good, word-insertable, insertion-entry}
+use Rattle.machine.proofs.Bytes.{line-answer}
+use Rattle.machine.proofs.Misses.{MissAlike, refuses, lacks, inserts, miss-alike}
 use Rattle.machine.proofs.Looks.{StepAlike, used-alike}
 use Rattle.machine.proofs.Commands.{does-alike, does-places, access-told, insertion-says, insert-agrees, insert-alike, insert-refused, alike-side}
 
@@ -105,118 +113,188 @@ step-plain {u} h c t f e =
     let v = passed (h .ledger) c f e in
     step-passed c v e (does-alike (h .ledger) c v _ t) (does-places h c v t) (rw v (says-passed h c t v))
 
--- ---- an insertion that 5 to 12 do not refuse
+-- ---- an insertion from 11 on: a command's, or that of a served miss
 first-fine : (k : ℕ) (b : Bool) (qs : List (ℕ × Bool)) → (k ≡ 0 → ⊥) → firstNo ((k, b) ∷ qs) ≡ 0 → (b ≡ true) × (firstNo qs ≡ 0)
 unfolding firstNo
 first-fine k true qs z e = (refl, e)
 first-fine k false qs z e = absurd (z e)
 
--- what those questions say
-record Asked12 (l : Ledger) (strand side flags word : ℕ) : Type 0 where
-  strands : strand < 4
-  sides : side < 2
-  flag : flags < 4
-  address : addressGood (tagOf l strand side - tagOf l strand side % 8192) ≡ true
-  words : wordGood word ≡ true
+-- ledger and places after it
+abbrev inserted : Counts → Reference → ℕ → ℕ → ℕ → ℕ → Name → Reference
+inserted n k strand side flags word d = record {
+  ledger = entersInsertion (slotCount n) (k .ledger) strand side flags word d .ledger;
+  places = placesInserted (slotCount n) k strand side flags word;
+}
 
-asked-12 : (l : Ledger) (strand side flags word : ℕ) → firstNo (questions l (command.Insert strand side flags word)) ≡ 0 → Asked12 l strand side flags word
-unfolding questions
-asked-12 l strand side flags word e =
-    let a = first-fine 5 _ _ (λ z. omega arith) e in
-    let b = first-fine 6 _ _ (λ z. omega arith) (a .1) in
-    let c = first-fine 8 _ _ (λ z. omega arith) (b .1) in
-    let d = first-fine 11 _ _ (λ z. omega arith) (c .1) in
-    record {
-      strands = omega (arith, leb-true strand 3 (a .0));
-      sides = omega (arith, leb-true side 1 (b .0));
-      flag = omega (arith, leb-true flags 3 (c .0));
-      address = d .0;
-      words = first-fine 12 _ _ (λ z. omega arith) (d .1) .0;
-    }
+-- b is the unit's answer, v the state that it leaves
+record InsertSays (n : Counts) (k : Reference) (strand side flags word : ℕ) (b : Bytes) (v : State) : Type 0 where
+  bytes : entersInsertion (slotCount n) (k .ledger) strand side flags word (nameIn b) .bytes ≡ b
+  says : firstNo (insertionQuestions (k .ledger) strand side word) ≡ 0
+      → InsertionSays (slotCount n side) (k .places side) (k .ledger .entries side) (newEntry (k .ledger) strand side flags word) b
+  alike : ReferenceAlike n v (inserted n k strand side flags word (nameIn b))
 
 module _ {n : Counts} {u : State} {k : Reference} (a : ReferenceAlike n u k) (strand side flags word : ℕ)
-    (e : firstNo (questions (k .ledger) (command.Insert strand side flags word)) ≡ 0) where
+    (s : strand < 4) (d : side < 2) (f : flags < 4) where
   abbrev l : Ledger
   l = k .ledger
 
   h : Alike n u l
   h = a .ledger
 
-  abbrev c : Command
-  c = command.Insert strand side flags word
+  abbrev number : ℕ
+  number = firstNo (insertionQuestions l strand side word)
+
+  abbrev asks : Verdict
+  asks = ask (askedInsertion u strand side flags word)
 
   abbrev new : Slot
   new = insertion u strand side flags word
 
-  abbrev told : Placed
-  told = placed candidate new (sideOf u side)
+  abbrev slotted : Bool
+  slotted = hasSlot candidate new (sideOf u side)
 
-  q : Asked12 l strand side flags word
-  q = asked-12 l strand side flags word e
+  -- 11 and 12: both leave everything
+  not-inserted : (number ≡ 0 → ⊥)
+      → InsertSays n k strand side flags word (answerBytes (insertStep u strand side flags word .answer)) (insertStep u strand side flags word .state)
+  unfolding insertStep entersInsertion placesInserted
+  not-inserted e = go asks refused
+    where
+      refused : verdictNumber asks ≡ number
+      refused = insertion-number h strand side flags word s d ∙ rw (ne-eqb number 0 e)
 
-  good : wordSound word ≡ true
-  good = sym (word-good word) ∙ q .words
+      go : (v : Verdict) → verdictNumber v ≡ number → InsertSays n k strand side flags word
+          (answerBytes (stepBy asks u (command.Insert strand side flags word) .answer)) (stepBy asks u (command.Insert strand side flags word) .state)
+      go Passed g = absurd (e (sym g))
+      go (Refused r) g =
+          let v : asks ≡ Refused r = same-number asks (Refused r) (refused ∙ sym g) in
+          let t : eqb number 0 ≡ false = ne-eqb number 0 e in
+          record {
+            bytes = rw (v, t) (ap (λ (i : ℕ). line 5 i 0 0 0 0) (sym g) ∙ sym (refused-bytes r));
+            says = λ z. absurd (e z);
+            alike = rw (v, t) a;
+          }
 
-  new-sound : slotSound new ≡ true
-  new-sound =
-      insertion-sound u strand side flags word
-      (sym (ap inRange (tag-address h strand (q .strands) side (q .sides))) ∙ sym (address-good _) ∙ q .address) (sym (word-insertable word) ∙ q .words)
+  module _ (e : number ≡ 0) where
+    abbrev told : Placed
+    told = placed candidate new (sideOf u side)
 
-  new-live : isLive new ≡ true
-  new-live = entry-live _ (flagLocked flags) word good
+    words : wordGood word ≡ true
+    unfolding insertionQuestions
+    words = first-fine 12 _ _ (λ z. omega arith) (first-fine 11 _ _ (λ z. omega arith) e .1) .0
 
-  -- the new entry is the ledger's
-  same-entry : entryIn new ≡ newEntry l strand side flags word
-  same-entry = insertion-entry h strand side flags word (q .strands) (q .sides) (q .flag) good
+    address : addressGood (tagOf l strand side - tagOf l strand side % 8192) ≡ true
+    unfolding insertionQuestions
+    address = first-fine 11 _ _ (λ z. omega arith) e .0
 
-  -- the unit's answer, by whether a slot is to be had
-  had : hasSlot candidate new (sideOf u side) ≡ true → verdict u c ≡ Passed
-  had t = number-passed (verdict u c) (passed-alike h c e ∙ rw t)
+    good : wordSound word ≡ true
+    good = sym (word-good word) ∙ words
 
-  lacked : hasSlot candidate new (sideOf u side) ≡ false → verdict u c ≡ Refused refusal.NoSlot
-  lacked t = number-refused (verdict u c) refusal.NoSlot (passed-alike h c e ∙ rw t)
+    new-sound : slotSound new ≡ true
+    new-sound =
+        insertion-sound u strand side flags word
+        (sym (ap inRange (tag-address h strand s side d)) ∙ sym (address-good _) ∙ address) (sym (word-insertable word) ∙ words)
 
-  unit-answer : unitBytes u c ≡ answerBytes (placedAnswer told)
-  unfolding step act
-  unit-answer = by-test (hasSlot candidate new (sideOf u side))
-      (λ t. rw (had t))
-      (λ t. rw (lacked t, insert-refused h side (q .sides) new new-sound new-live t .0))
+    new-live : isLive new ≡ true
+    new-live = entry-live _ (flagLocked flags) word good
 
-  -- and what the ledger does with it
-  ledger-does : fed n u k c ≡ inserts (slotCount n side) l side (entryIn new) (nameIn (answerBytes (placedAnswer told)))
-  unfolding enters does
-  ledger-does = rw (e, unit-answer, same-entry)
+    -- the new entry is the ledger's
+    same-entry : entryIn new ≡ newEntry l strand side flags word
+    same-entry = insertion-entry h strand side flags word s d f good
 
-  after-step : Alike n (step u c .state) (inserts (slotCount n side) l side (entryIn new) (nameIn (answerBytes (placedAnswer told))) .ledger)
-  unfolding step act
-  after-step = by-test (hasSlot candidate new (sideOf u side))
-      (λ t. rw (had t) (insert-alike h side (q .sides) new new-sound new-live t))
-      (λ t. rw (lacked t, insert-refused h side (q .sides) new new-sound new-live t .1) h)
+    -- the unit's answer, by whether a slot is to be had
+    had : slotted ≡ true → asks ≡ Passed
+    had t = number-passed asks (insertion-number h strand side flags word s d ∙ rw (e, t))
 
-  after-places : PlacesAlike (step u c .state) (placesAfter (slotCount n) k c)
-  unfolding step act placesAfter moved
-  after-places =
-      let lacks : lacksSlot (slotCount n side) (newEntry l strand side flags word) (l .entries side) ≡ not (hasSlot candidate new (sideOf u side)) =
-      rw (← same-entry) (alike-lacks (alike-side side (q .sides) h) new new-sound new-live) in
-      by-test (hasSlot candidate new (sideOf u side))
-      (λ t. rw (e, had t, lacks, t, ← same-entry, a .places .at side (q .sides))
-      (places-with (a .places) side (q .sides) _
-      (inserted-side new new-sound new-live (new-used _ (flagLocked flags) word) (sideOf u side) (alike-side side (q .sides) h .sound) t)))
-      (λ t. rw (e, lacked t, lacks, t) (a .places))
+    lacked : slotted ≡ false → asks ≡ Refused refusal.NoSlot
+    lacked t = number-refused asks refusal.NoSlot (insertion-number h strand side flags word s d ∙ rw (e, t))
+
+    unit-answer : answerBytes (insertStep u strand side flags word .answer) ≡ answerBytes (placedAnswer told)
+    unfolding insertStep act
+    unit-answer = by-test slotted
+        (λ t. rw (had t))
+        (λ t. rw (lacked t, insert-refused h side d new new-sound new-live t .0))
+
+    -- and what the ledger does with it
+    ledger-does : entersInsertion (slotCount n) l strand side flags word (nameIn (answerBytes (insertStep u strand side flags word .answer)))
+        ≡ ledger.inserts (slotCount n side) l side (entryIn new) (nameIn (answerBytes (placedAnswer told)))
+    unfolding entersInsertion
+    ledger-does = rw (e, unit-answer, same-entry)
+
+    after-step : Alike n (insertStep u strand side flags word .state)
+        (ledger.inserts (slotCount n side) l side (entryIn new) (nameIn (answerBytes (placedAnswer told))) .ledger)
+    unfolding insertStep act
+    after-step = by-test slotted
+        (λ t. rw (had t) (insert-alike h side d new new-sound new-live t))
+        (λ t. rw (lacked t, insert-refused h side d new new-sound new-live t .1) h)
+
+    after-places : PlacesAlike (insertStep u strand side flags word .state) (placesInserted (slotCount n) k strand side flags word)
+    unfolding insertStep act placesInserted moved
+    after-places =
+        let none : lacksSlot (slotCount n side) (newEntry l strand side flags word) (l .entries side) ≡ not slotted =
+        rw (← same-entry) (alike-lacks (alike-side side d h) new new-sound new-live) in
+        by-test slotted
+        (λ t. rw (e, had t, none, t, ← same-entry, a .places .at side d)
+        (places-with (a .places) side d _
+        (inserted-side new new-sound new-live (new-used _ (flagLocked flags) word) (sideOf u side) (alike-side side d h .sound) t)))
+        (λ t. rw (e, lacked t, none, t) (a .places))
+
+    is-inserted : InsertSays n k strand side flags word (answerBytes (insertStep u strand side flags word .answer)) (insertStep u strand side flags word .state)
+    is-inserted = record {
+      bytes = ap (λ (w : Written). w .bytes) ledger-does ∙ insert-agrees h side d new new-sound new-live told refl .0 ∙ sym unit-answer;
+      says = λ _. rw (unit-answer, ← same-entry, a .places .at side d) (insertion-says (alike-side side d h) new new-sound new-live);
+      alike = record {
+        ledger = subst (λ (w : Written). Alike n (insertStep u strand side flags word .state) (w .ledger)) (sym ledger-does) after-step;
+        places = after-places;
+      };
+    }
+
+  insert-says : InsertSays n k strand side flags word (answerBytes (insertStep u strand side flags word .answer)) (insertStep u strand side flags word .state)
+  insert-says = by-test (eqb number 0) (λ t. is-inserted (eqb-true number 0 t)) (λ t. not-inserted (eqb-false number 0 t))
+
+  -- a command that 5, 6 and 8 do not refuse comes to it, in the unit, the ledger and the places
+  abbrev c : Command
+  c = command.Insert strand side flags word
+
+  same-step : step u c ≡ insertStep u strand side flags word
+  unfolding step verdict asked ask insertStep
+  same-step = rw (lt-ltb strand 4 s, lt-ltb side 2 d, lt-ltb flags 4 f)
+
+  same-first : firstNo (questions l c) ≡ number
+  unfolding questions firstNo
+  same-first = rw (le-leb strand 3 (omega arith), le-leb side 1 (omega arith), le-leb flags 3 (omega arith))
+
+  same-enters : (x : Name) → enters (slotCount n) l c x ≡ entersInsertion (slotCount n) l strand side flags word x
+  unfolding enters does entersInsertion
+  same-enters x = rw same-first
+
+  same-places : placesAfter (slotCount n) k c ≡ placesInserted (slotCount n) k strand side flags word
+  unfolding placesAfter placesInserted
+  same-places = rw same-first
 
   step-insert : StepSays n u k c
   step-insert = record {
-    bytes = ap (λ (w : Written). w .bytes) ledger-does ∙ insert-agrees h side (q .sides) new new-sound new-live told refl .0 ∙ sym unit-answer;
-    says = λ _. rw (unit-answer, ← same-entry, a .places .at side (q .sides)) (insertion-says (alike-side side (q .sides) h) new new-sound new-live);
-    alike = record { ledger = subst (λ (w : Written). Alike n (step u c .state) (w .ledger)) (sym ledger-does) after-step; places = after-places };
+    bytes = rw (same-step, same-enters) (insert-says .bytes);
+    says = λ e. rw same-step (insert-says .says (sym same-first ∙ e));
+    alike = rw (same-step, same-enters, same-places) (insert-says .alike);
   }
+
+asked-8 : (l : Ledger) (strand side flags word : ℕ) → firstNo (questions l (command.Insert strand side flags word)) ≡ 0
+    → (strand < 4) × (side < 2) × (flags < 4)
+unfolding questions
+asked-8 l strand side flags word e =
+    let a = first-fine 5 _ _ (λ z. omega arith) e in
+    let b = first-fine 6 _ _ (λ z. omega arith) (a .1) in
+    let c = first-fine 8 _ _ (λ z. omega arith) (b .1) in
+    (omega (arith, leb-true strand 3 (a .0)), omega (arith, leb-true side 1 (b .0)), omega (arith, leb-true flags 3 (c .0)))
 
 pub step-says : (n : Counts) (u : State) (k : Reference) (c : Command) → ReferenceAlike n u k → StepSays n u k c
 step-says n u k c h = by-test (eqb (firstNo (questions (k .ledger) c)) 0) (λ t. by-command c (eqb-true _ 0 t)) (λ t. step-refused n u k c h (eqb-false _ 0 t))
   where
     by-command : (c : Command) → firstNo (questions (k .ledger) c) ≡ 0 → StepSays n u k c
     by-command =
-        by-view (step-insert h)
+        by-view (λ strand side flags word e.
+        let (s, d, f) = asked-8 (k .ledger) strand side flags word e in
+        step-insert h strand side flags word s d f)
         (λ strand kind selector size address. step-plain h (command.Access strand kind selector size address) tt refl)
         (λ c e. step-plain h c (rw e tt) (rw e))
 
@@ -319,19 +397,49 @@ module _ (n : Counts) (words : List ℕ) (input output : Bytes) (w : wordsSound 
         commands = r .say;
       }
 
--- ---- every list of runs, from any state that a reference describes
-pub events-say : (n : Counts) (es : List Event) (u : State) (k : Reference) → ReferenceAlike n u k → EventsSay n (encode u) k es
-events-say n [] u k h = alike-words h
-events-say n (run input output ∷ es) u k h =
+-- ---- a served miss
+-- what is said of it, with the state that it leaves
+pub record ServeAlike (n : Counts) (k : Reference) (strand side : ℕ) (m : Miss) (t : Stepped) : Type 0 where
+  pub says : ServeSays n k strand side m (answerBytes (t .answer))
+  pub alike : ReferenceAlike n (t .state) (missTold (slotCount n) k strand side m (nameIn (answerBytes (t .answer))))
+
+absent-bytes : answerBytes answer.NotInTable ≡ line 6 0 0 0 0 0
+unfolding answerBytes
+absent-bytes = line-answer 6 0 0 (omega arith) (omega arith) (omega arith)
+
+serve-by : {n : Counts} {u : State} {k : Reference} → ReferenceAlike n u k → (strand side : ℕ) {m : Miss} {t : Stepped} → MissAlike u strand side m t
+    → ServeAlike n k strand side m t
+serve-by h strand side (refuses r) = record { says = record { bytes = sym (refused-bytes r); says = tt }; alike = h }
+serve-by h strand side lacks = record { says = record { bytes = sym absent-bytes; says = tt }; alike = h }
+serve-by h strand side (inserts word s d) =
+    let r = insert-says h strand side 0 word s d (omega arith) in
+    record { says = record { bytes = r .bytes; says = r .says }; alike = r .alike }
+
+pub serve-says : {n : Counts} {u : State} {k : Reference} → ReferenceAlike n u k → (strand side : ℕ) (ofZero ofOther : Bytes)
+    → ServeAlike n k strand side (miss (k .ledger) strand side ofZero ofOther) (unit.serve u strand side ofZero ofOther)
+serve-says h strand side ofZero ofOther = serve-by h strand side (miss-alike (h .ledger) strand side ofZero ofOther)
+
+-- ---- every list, from any state that a reference describes
+-- one event: what it leaves is alike again
+event-says : (n : Counts) (e : Event) (u : State) (k : Reference) (Then : List ℕ → Reference → Type 0) → ReferenceAlike n u k
+    → ((v : State) (l : Reference) → ReferenceAlike n v l → Then (encode v) l) → EventSays n (encode u) k e Then
+unfolding servedOf
+event-says n (run input output) u k Then h then =
     let s : sound n u ≡ true = alike-sound n u (k .ledger) (h .ledger) in
     let back : stateOf n (encode u) ≡ u = sound-encode n u s in
     let w : wordsSound n (encode u) ≡ true = words-sound n u s in
-    let h' : ReferenceAlike n (stateOf n (encode u)) k = rw back h in (
-      alike-words h,
-      λ t x.
-          let r = commands-agree n (stateOf n (encode u)) k (t .commands) h' in
-          (run-says n (encode u) input output w t x k h', rw (read-words n (encode u) input output w t x) (events-say n es _ _ (r .alike))),
-    )
+    let g : ReferenceAlike n (stateOf n (encode u)) k = rw back h in
+    λ t x.
+    let r = commands-agree n (stateOf n (encode u)) k (t .commands) g in
+    (run-says n (encode u) input output w t x k g, rw (read-words n (encode u) input output w t x) (then _ _ (r .alike)))
+event-says n (serve strand side ofZero ofOther) u k Then h then =
+    let s : sound n u ≡ true = alike-sound n u (k .ledger) (h .ledger) in
+    let r = serve-says h strand side ofZero ofOther in
+    rw (words-sound n u s, sound-encode n u s) (r .says, then _ _ (r .alike))
+
+pub events-say : (n : Counts) (es : List Event) (u : State) (k : Reference) → ReferenceAlike n u k → EventsSay n (encode u) k es
+events-say n [] u k h = alike-words h
+events-say n (e ∷ es) u k h = (alike-words h, event-says n e u k (λ w l. EventsSay n w l es) h (λ v l a. events-say n es v l a))
 
 pub start-alike : (n : Counts) → ReferenceAlike n (reset n) (referenceStart (slotCount n))
 unfolding reset

@@ -17,24 +17,23 @@ use Rattle.laws.specs.declared.Found.the-variants.{At, Nothing}
 use Rattle.laws.proofs.Bools.{by-test, clash, and-both, and-left, and-right}
 use Rattle.laws.proofs.Counts.{count-at, none-count}
 use Rattle.laws.proofs.Finds.{count-index}
-use Rattle.machine.specs.Pages.{inRange}
 use Rattle.machine.specs.Words.{wordInsertable}
 use Rattle.machine.specs.Slots.{noSlot, isLive, partitionOf, keyOwner, answersTo, withUsed, withoutUsed, setUsed}
 use Rattle.machine.specs.Insertion.{overlaps, removed, removes, isEmpty, candidate, entryOf, inserted, placed}
 use Rattle.machine.specs.Sound.{slotSound, sideSound}
-use Rattle.machine.specs.Registers.{partition, tagAccess, tagAddress}
+use Rattle.machine.specs.Registers.{partition}
 use Rattle.machine.specs.State.{Counts, State, sideOf, withSide, sound}
-use Rattle.machine.specs.Questions.{flagReal, flagLocked, keyOf, insertion, asked, verdict}
-use Rattle.machine.specs.Access.{accessOf, prepare, settleJudged, settleFound, settle, judge}
+use Rattle.machine.specs.Questions.{flagReal, flagLocked, keyOf, insertion, askedInsertion, asked, ask, verdict}
+use Rattle.machine.specs.Access.{Stepped, accessOf, prepare, settleJudged, settleFound, settle, judge}
 use Rattle.machine.specs.declared.VirtualAddress.{VirtualAddress}
 use Rattle.machine.specs.declared.Access.{Access}
 use Rattle.machine.specs.declared.Prepared.{Prepared}
 use Rattle.machine.specs.declared.Prepared.the-variants as prepared
 use Rattle.machine.specs.declared.Judged.{Judged}
 use Rattle.machine.specs.declared.Judged.the-variants as judged
-use Rattle.machine.specs.Step.{act, stepBy, step}
-use Rattle.machine.specs.Ledger.{Entry, overlap, unlocked, isAt, inContext, inPartition}
-use Rattle.machine.specs.Frame.{entryIn}
+use Rattle.machine.specs.Step.{act, stepBy, step, insertStep}
+use Rattle.machine.specs.Ledger.{Entry, overlap, unlocked, isAt, inContext, inPartition, Miss}
+use Rattle.machine.specs.Frame.{Framed, entryIn}
 use Rattle.machine.specs.Frame.{LivesIn, Lives, Removes, invalidated, overlapped, demappedPage, demappedContext, demappedAll, displaced}
 use Rattle.machine.specs.declared.Slot.{Slot}
 use Rattle.machine.specs.declared.Placed.{Placed}
@@ -46,7 +45,10 @@ use Rattle.machine.specs.declared.Verdict.the-variants.{Passed, Refused}
 use Rattle.machine.proofs.Words.{insertable-sound}
 use Rattle.machine.proofs.Insertion.{count-removed, count-set-used, displacedShare, newShare, count-inserted, PlacedSays, placed-says}
 use Rattle.machine.proofs.Sound.{entry-live, owner-parts, sound-slot}
+use Rattle.machine.proofs.Good.{state-alike}
+use Rattle.machine.proofs.Misses.{MissAlike, refuses, lacks, inserts, miss-alike}
 use Rattle.machine.proofs.State.{StrandSound, strand-sound, sound-registers, sound-side, passed-asked, insertion-sound, kind-side}
+use Rattle.machine.proofs.State.{Insertable, insertable, insert-insertable}
 use Rattle.machine.proofs.Alike.{hit}
 use Rattle.machine.proofs.Sides.{SameTest, overlap-test, page-test, context-test, partition-test, live-test, sameEntry, entry-self, entry-same}
 
@@ -175,18 +177,25 @@ module _ (n : Counts) (u : State) (side : ℕ) (e : Entry) (h : sound n u ≡ tr
       with-side (λ s. LivesIn s e ⊎ R) u _ other side o b (inl l)
       (λ q. rw q (⊎-elim inl (λ g. inr (r q g)) (removed-frame (sideOf u side) e l (sound-side n u h side .1) t)))
 
-  -- an insertion that passed
-  insert-frame : (strand flags word : ℕ) → strand < 4 → inRange (tagAddress (tagAccess (u .registers) strand side) .0) ≡ true → wordInsertable word ≡ true
+  -- an insertion that passed, on this side and on either
+  side-frame : (strand flags word : ℕ) → strand < 4 → Insertable u strand side flags word
       → LivesIn (inserted candidate (insertion u strand side flags word) (sideOf u side)) e ⊎ Removes u side e (command.Insert strand side flags word)
   unfolding overlap
-  insert-frame strand flags word s a w =
+  side-frame strand flags word s i =
       let new : Slot = insertion u strand side flags word in
       let p : partitionOf new ≡ partition (u .registers) strand =
       insertion-partition u strand side flags word (strand-sound (u .registers) strand (sound-registers n u h) s .partitions) in
       ⊎-elim inl
       (λ r. inr (⊎-elim (λ t. overlapped (sym p ∙ search conj) t) (λ t. displaced (t .0) (t .1) (t .2)) r))
-      (inserted-frame (sideOf u side) (sound-side n u h side .1) new (insertion-sound u strand side flags word a w)
-      (insertion-live u strand side flags word w) e l)
+      (inserted-frame (sideOf u side) (sound-side n u h side .1) new (insertion-sound u strand side flags word (i .address) (i .tte))
+      (insertion-live u strand side flags word (i .tte)) e l)
+
+  pub insert-frame : (strand other flags word : ℕ) → strand < 4 → other < 2 → Insertable u strand other flags word
+      → Lives (act u (command.Insert strand other flags word) .state) side e ⊎ Removes u side e (command.Insert strand other flags word)
+  unfolding act
+  insert-frame strand other flags word s o i =
+      with-side (λ t. LivesIn t e ⊎ Removes u side e (command.Insert strand other flags word)) u _ other side o b (inl l)
+      (λ f. rw f (side-frame strand flags word s (rw f at i)))
 
   -- an access marks the entry that it finds, and writes registers
   judged-frame : (v : State) (a : Access) (j : Judged) → Lives v side e → Lives (settleJudged v a j .state) side e
@@ -210,13 +219,8 @@ module _ (n : Counts) (u : State) (side : ℕ) (e : Entry) (h : sound n u ≡ tr
   unfolding act asked allOf isAt inContext inPartition removes
   act-frame (command.Write strand number value) v = inl l
   act-frame (command.Insert strand other flags word) v =
-      let q = passed-asked u (command.Insert strand other flags word) v in
-      let s : strand < 4 = search conj in
-      let o : other < 2 = search conj in
-      let a : inRange (tagAddress (tagAccess (u .registers) strand other) .0) ≡ true = search conj in
-      let w : wordInsertable word ≡ true = search conj in
-      with-side (λ t. LivesIn t e ⊎ Removes u side e (command.Insert strand other flags word)) u _ other side o b (inl l)
-      (λ f. rw f (insert-frame strand flags word s (rw f at a) w))
+      let (s, o, i) = insert-insertable u strand other flags word v in
+      insert-frame strand other flags word s o i
   act-frame (command.DemapPage strand other selector flags address) v =
       let q = passed-asked u (command.DemapPage strand other selector flags address) v in
       let s : StrandSound (u .registers) strand = strand-sound (u .registers) strand (sound-registers n u h) (search conj) in
@@ -240,13 +244,41 @@ module _ (n : Counts) (u : State) (side : ℕ) (e : Entry) (h : sound n u ≡ tr
   act-frame (command.Read strand number) v = inl l
   act-frame (command.Pointers strand other) v = inl l
 
--- ---- the law
+-- ---- the laws
 -- a live entry stays, the same in all its parts, or the command was accepted and is one that takes it
-pub frame : (n : Counts) (u : State) (c : Command) (side : ℕ) (e : Entry) → sound n u ≡ true → side < 2 → Lives u side e
+by-command : (n : Counts) (u : State) (c : Command) (side : ℕ) (e : Entry) → sound n u ≡ true → side < 2 → Lives u side e
     → Lives (step u c .state) side e ⊎ ((verdict u c ≡ Passed) × Removes u side e c)
 unfolding step
-frame n u c side e h b l = go (verdict u c) refl
+by-command n u c side e h b l = go (verdict u c) refl
   where
     go : (v : Verdict) → verdict u c ≡ v → Lives (stepBy v u c .state) side e ⊎ ((verdict u c ≡ Passed) × Removes u side e c)
     go Passed v = ⊎-elim inl (λ r. inr (v, r)) (act-frame n u side e h b l c v)
     go (Refused r) v = inl l
+
+-- .. or the miss was served, by an insertion that takes it
+module _ (n : Counts) (u : State) (strand at side : ℕ) (e : Entry) (h : sound n u ≡ true) (b : side < 2) (l : Lives u side e) where
+  abbrev Taken : Stepped → Type 0
+  Taken t = (word : ℕ) × (t ≡ act u (command.Insert strand at 0 word)) × Removes u side e (command.Insert strand at 0 word)
+
+  step-taken : (word : ℕ) → strand < 4 → at < 2 → Lives (insertStep u strand at 0 word .state) side e ⊎ Taken (insertStep u strand at 0 word)
+  unfolding insertStep
+  step-taken word s d = go (ask (askedInsertion u strand at 0 word)) refl
+    where
+      c : Command
+      c = command.Insert strand at 0 word
+
+      go : (v : Verdict) → ask (askedInsertion u strand at 0 word) ≡ v → Lives (stepBy v u c .state) side e ⊎ Taken (stepBy v u c)
+      go Passed v = ⊎-elim inl (λ r. inr (word, refl, r)) (insert-frame n u side e h b l strand at 0 word s d (insertable u strand at 0 word v))
+      go (Refused r) v = inl l
+
+  miss-taken : {m : Miss} {t : Stepped} → MissAlike u strand at m t → Lives (t .state) side e ⊎ Taken t
+  miss-taken (refuses r) = inl l
+  miss-taken lacks = inl l
+  miss-taken (inserts word s d) = step-taken word s d
+
+pub framed : Framed
+framed = record {
+  byCommand = by-command;
+  byMiss = λ n u strand at ofZero ofOther side e h b l.
+      miss-taken n u strand at side e h b l (miss-alike (state-alike n u h .ledger) strand at ofZero ofOther);
+}

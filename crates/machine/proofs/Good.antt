@@ -19,11 +19,11 @@ use Rattle.machine.specs.Slots.{noSlot, isLive, isUsed}
 use Rattle.machine.specs.Insertion.{overlaps}
 use Rattle.machine.specs.Sound.{ownerSound, pageSound, liveSound, slotSound, sideSound}
 use Rattle.machine.specs.Registers.{register, allowed, registersSound}
-use Rattle.machine.specs.State.{Counts, slotCount, State, sideOf, stateOf, sound}
+use Rattle.machine.specs.State.{wordsSound, Counts, slotCount, State, sideOf, stateOf, sound}
 use Rattle.machine.specs.Frame.{entryIn}
 use Rattle.machine.specs.Ledger.{Entry, overlap}
 use Rattle.machine.specs.Places.{Place, empty, filled, Reference, row}
-use Rattle.machine.specs.Good.{EntryGood, SideGood, entriesIn, ReferenceGood}
+use Rattle.machine.specs.Good.{GoodWords, EntryGood, SideGood, entriesIn, ReferenceGood}
 use Rattle.machine.specs.Demand3.{Described}
 use Rattle.machine.specs.declared.Slot.{Slot}
 use Rattle.machine.proofs.Sound.{live-parts, no-slot-sound, none-overlaps, sound-slot}
@@ -84,7 +84,7 @@ unfolding count entriesIn
 entries-same p [] = refl
 entries-same p (x ∷ r) = by-test (isLive x) (λ e. rw (e, entries-same p r)) (λ e. rw e (omega (arith, entries-same p r)))
 
-state-alike : (n : Counts) (u : State) → sound n u ≡ true → ReferenceAlike n u (referenceOf u)
+pub state-alike : (n : Counts) (u : State) → sound n u ≡ true → ReferenceAlike n u (referenceOf u)
 state-alike n u h = record {
   ledger = record { allowed = sound-registers n u h; registers = λ strand number s k. refl; itlb = side 0; dtlb = side 1 };
   places = record { at = λ side b. refl };
@@ -269,5 +269,9 @@ described n = record {
         let h = good-alike n k g in
         rw (e, ← (alike-words h)) (words-sound n (stateFor n k g) (alike-sound n (stateFor n k g) (k .ledger) (h .ledger))),
   );
-  runs = λ k g es. rw (alike-words (good-alike n k g)) at (events-say n es (stateFor n k g) k (good-alike n k g));
+  lists = λ k g es. rw (alike-words (good-alike n k g)) at (events-say n es (stateFor n k g) k (good-alike n k g));
 }
+
+-- words that no reference describes are not sound
+pub unsound-words : (n : Counts) (words : List ℕ) → (GoodWords (slotCount n) words → ⊥) → wordsSound n words ≡ false
+unsound-words n words f = by-test (wordsSound n words) (λ t. absurd (f (described n .sound words .0 t))) (λ t. t)

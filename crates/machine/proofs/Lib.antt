@@ -16,6 +16,7 @@ pub mod Places
 pub mod Examples
 pub mod Printed
 pub mod Views
+pub mod Misses
 pub mod Commands
 pub mod Demand3
 pub mod Good

@@ -8,7 +8,7 @@ use Rattle.machine.specs.Insertion.{overlaps, removes, entryOf, wants, c
 use Rattle.machine.specs.Sound.{ownerSound, pageSound, liveSound, emptySound, slotSound, sideSound}
 use Rattle.machine.specs.Registers.{known, writable, baseAllowed, configurationAllowed, allowed, registersSound, resetStrands}
 use Rattle.machine.specs.State.{stateOf, encode, reset, sideFits, sound, wordsSound}
-use Rattle.machine.specs.Questions.{asked, ask, verdict}
+use Rattle.machine.specs.Questions.{asked, askedInsertion, ask, verdict}
 use Rattle.machine.specs.Access.{prepare, faultType, judge, trapRegisters}
 use Rattle.machine.specs.Step.{act, step}
 use Rattle.machine.specs.Tsb.{tsbOffset, tsbPointer}
@@ -19,7 +19,7 @@ pub printed-run : PrintedRun
 unfolding PrintedRun given printed allBelow count anyOf allOf pairwise firstFrom inRange listed pageShift wordSound
     wordInsertable frame physicalAt slotsOf wordsOf answersTo overlaps removes entryOf wants choice inserted placed
     hasSlot ownerSound pageSound liveSound emptySound slotSound sideSound known writable baseAllowed
-    configurationAllowed allowed registersSound resetStrands stateOf encode reset sideFits sound wordsSound asked ask
-    verdict prepare faultType judge trapRegisters tsbOffset tsbPointer act step eight widthOf commandAt decodeAt
+    configurationAllowed allowed registersSound resetStrands stateOf encode reset sideFits sound wordsSound asked askedInsertion
+    ask verdict prepare faultType judge trapRegisters tsbOffset tsbPointer act step eight widthOf commandAt decodeAt
     answerBytes takes after answersBytes finish runOf
 printed-run = (refl, refl, refl, refl)

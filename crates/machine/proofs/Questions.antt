@@ -21,13 +21,13 @@ use Rattle.machine.specs.Registers.{tagContext, baseNumber, configuratio
 use Rattle.machine.specs.Registers.{configurationAllowed, allowed, resetRegisters, resetStrands}
 use Rattle.machine.specs.State.{Counts, State, sideOf, withRegisters, reset}
 use Rattle.machine.specs.Questions.{Question, question, refusalNumber, flagReal, flagLocked, keyOf, insertion}
-use Rattle.machine.specs.Questions.{kindSide, selectorFits, nucleusFetch, sizeFits, asked, ask, verdict}
+use Rattle.machine.specs.Questions.{kindSide, selectorFits, nucleusFetch, sizeFits, askedInsertion, asked, ask, verdict}
 use Rattle.machine.specs.Step.{act}
 use Rattle.machine.specs.Tsb.{tsbOffset, tsbPointer, pointer}
 use Rattle.machine.specs.Stream.{answerBytes}
 use Rattle.machine.specs.Ledger.{Ledger, start, writes, pageBytes, codeListed, addressGood, wordGood}
 use Rattle.machine.specs.Ledger.{registerKnown, registerWritable, valueGood, contextPicked, tagOf, line}
-use Rattle.machine.specs.Ledger.{newEntry, firstNo, selectorGood, questions, pointerOf, pointers}
+use Rattle.machine.specs.Ledger.{newEntry, firstNo, selectorGood, insertionQuestions, questions, pointerOf, pointers}
 use Rattle.machine.specs.Frame.{entryIn}
 use Rattle.machine.specs.Views.{View, view}
 use Rattle.machine.specs.Views as views
@@ -96,7 +96,7 @@ pub page-bytes : (word : ℕ) → wordSound word ≡ true → pageBytes word ≡
 unfolding wordSound
 page-bytes word h = code-bytes (word % 2 ^ 4) (search conj)
 
-live-word : (word : ℕ) → (leb (2 ^ 63) word && ltb word (2 ^ 64)) ≡ eqb (word / 2 ^ 63) 1
+pub live-word : (word : ℕ) → (leb (2 ^ 63) word && ltb word (2 ^ 64)) ≡ eqb (word / 2 ^ 63) 1
 live-word word =
     both-ways (leb (2 ^ 63) word && ltb word (2 ^ 64)) (eqb (word / 2 ^ 63) 1)
     (λ e.
@@ -236,13 +236,15 @@ verdictNumber (Refused r) = refusalNumber r
 -- the verdicts by their numbers
 numbered : List Verdict
 numbered =
-    Passed ∷ Passed ∷ Passed ∷ Passed ∷ Passed
+    Passed ∷ Refused refusal.State ∷ Passed ∷ Passed ∷ Passed
     ∷ Refused refusal.Strand ∷ Refused refusal.Side ∷ Refused refusal.Selector ∷ Refused refusal.Operand ∷ Refused refusal.Register
-    ∷ Refused refusal.Value ∷ Refused refusal.Address ∷ Refused refusal.Word ∷ Refused refusal.NoSlot ∷ []
+    ∷ Refused refusal.Value ∷ Refused refusal.Address ∷ Refused refusal.Word ∷ Refused refusal.NoSlot
+    ∷ Refused refusal.Table ∷ []
 
 verdict-back : (v : Verdict) → getD numbered (verdictNumber v) Passed ≡ v
 unfolding numbered
 verdict-back Passed = refl
+verdict-back (Refused refusal.State) = refl
 verdict-back (Refused refusal.Strand) = refl
 verdict-back (Refused refusal.Side) = refl
 verdict-back (Refused refusal.Selector) = refl
@@ -252,6 +254,7 @@ verdict-back (Refused refusal.Value) = refl
 verdict-back (Refused refusal.Address) = refl
 verdict-back (Refused refusal.Word) = refl
 verdict-back (Refused refusal.NoSlot) = refl
+verdict-back (Refused refusal.Table) = refl
 
 -- verdicts are told apart by their numbers
 pub same-number : (v w : Verdict) → verdictNumber v ≡ verdictNumber w → v ≡ w
@@ -272,19 +275,19 @@ refusal-positive r e = passed-refused (number-passed (Refused r) e)
 
 pub refusal-small : (r : Refusal) → refusalNumber r < 256
 unfolding numbered
-refusal-small r = by-test (ltb (refusalNumber r) 14)
-    (λ e. omega (arith, ltb-true (refusalNumber r) 14 e))
-    (λ e. passed-refused (sym (verdict-back (Refused r)) ∙ List·getD-eq-default numbered Passed (ltb-false (refusalNumber r) 14 e)))
+refusal-small r = by-test (ltb (refusalNumber r) (length numbered))
+    (λ e. omega (arith, ltb-true (refusalNumber r) (length numbered) e))
+    (λ e. passed-refused (sym (verdict-back (Refused r)) ∙ List·getD-eq-default numbered Passed (ltb-false (refusalNumber r) (length numbered) e)))
 
 -- the unit's questions beside the ledger's: the same numbers and answers, as long as all before were answered well.
 -- The last of an insertion, number 13, the unit asks alone
-data InStep (left : Bool) : List Question → List (ℕ × Bool) → Type 0 where
+pub data InStep (left : Bool) : List Question → List (ℕ × Bool) → Type 0 where
   done : left ≡ true → InStep left [] []
   slot : InStep left (question refusal.NoSlot left ∷ []) []
   next : {r : Refusal} {b c : Bool} {qs : List Question} {ps : List (ℕ × Bool)} → c ≡ b → (b ≡ true → InStep left qs ps)
       → InStep left (question r b ∷ qs) ((refusalNumber r, c) ∷ ps)
 
-first-no : {left : Bool} {qs : List Question} {ps : List (ℕ × Bool)} → InStep left qs ps
+pub first-no : {left : Bool} {qs : List Question} {ps : List (ℕ × Bool)} → InStep left qs ps
     → verdictNumber (ask qs) ≡ cond (eqb (firstNo ps) 0) (cond left 0 13) (firstNo ps)
 unfolding ask firstNo
 first-no (done e) = rw e
@@ -307,14 +310,21 @@ unfolding tsbPointer tsbOffset pointerOf
 pointer-of base code address h = rw (code-bytes code h, round-down base (2 ^ (13 + base % 16))) (omega arith)
 
 module _ {n : Counts} {u : State} {l : Ledger} (a : Alike n u l) where
+  -- 11 to 13
+  insertion-in-step : (strand side flags word : ℕ) → strand < 4 → side < 2
+      → InStep (hasSlot candidate (insertion u strand side flags word) (sideOf u side)) (askedInsertion u strand side flags word)
+      (insertionQuestions l strand side word)
+  unfolding askedInsertion insertionQuestions
+  insertion-in-step strand side flags word s d =
+      next (ap addressGood (tag-address a strand s side d) ∙ address-good _) (λ _. next (word-insertable word) (λ _. slot))
+
   in-step : (c : Command) → InStep (slotLeft u c) (asked u c) (questions l c)
   unfolding asked questions
   in-step (command.Write strand number value) =
       next (at-most strand 3) (λ s. next (register-writable number) (λ w. next (value-good number value (writable-known number w)) (λ _. done refl)))
   in-step (command.Insert strand side flags word) =
       next (at-most strand 3) (λ s. next (at-most side 1) (λ d. next (at-most flags 3) (λ _.
-      next (ap addressGood (tag-address a strand (ltb-true _ _ s) side (ltb-true _ _ d)) ∙ address-good _) (λ _.
-      next (word-insertable word) (λ _. slot)))))
+      insertion-in-step strand side flags word (ltb-true _ _ s) (ltb-true _ _ d))))
   in-step (command.DemapPage strand side selector flags address) =
       next (at-most strand 3) (λ s. next (at-most side 1) (λ d. next (selector-good side selector) (λ _.
       next (at-most flags 1) (λ _. next (address-good (address .0)) (λ _. done refl)))))
@@ -331,6 +341,13 @@ module _ {n : Counts} {u : State} {l : Ledger} (a : Alike n u l) where
   first-refusal : (c : Command) → verdictNumber (verdict u c) ≡ cond (eqb (firstNo (questions l c)) 0) (cond (slotLeft u c) 0 13) (firstNo (questions l c))
   unfolding verdict
   first-refusal c = first-no (in-step c)
+
+  -- from 11 on
+  pub insertion-number : (strand side flags word : ℕ) → strand < 4 → side < 2 →
+      let number : ℕ = firstNo (insertionQuestions l strand side word) in
+      verdictNumber (ask (askedInsertion u strand side flags word))
+      ≡ cond (eqb number 0) (cond (hasSlot candidate (insertion u strand side flags word) (sideOf u side)) 0 13) number
+  insertion-number strand side flags word s d = first-no (insertion-in-step strand side flags word s d)
 
   -- a command that the ledger refuses by 5 to 12, the unit refuses by the same number
   pub refused-alike : (c : Command) → (firstNo (questions l c) ≡ 0 → ⊥) → verdictNumber (verdict u c) ≡ firstNo (questions l c)

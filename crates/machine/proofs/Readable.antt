@@ -63,12 +63,12 @@ reads-stop (full c r f e l) h = omega arith
 reads-stop (next f e l x) h = reads-stop x h
 
 -- ---- n bytes from a place; where the bytes have ended, zeros
-unfoldable front : List ℕ → ℕ → ℕ → List ℕ
+unfoldable pub front : List ℕ → ℕ → ℕ → List ℕ
 front s at zero = []
 front s at (suc n) = front s at n ++ (getD s (at + n) 0 ∷ [])
 
 -- the first n of as many or more
-front-take : (s : List ℕ) (n : ℕ) → n ≤ length s → front s 0 n ≡ take n s
+pub front-take : (s : List ℕ) (n : ℕ) → n ≤ length s → front s 0 n ≡ take n s
 unfolding front
 front-take s zero h = refl
 front-take s (suc n) h = rw (zero-add, front-take s n (omega arith), take-suc s n 0)

@@ -11,23 +11,29 @@ use borrow.Author.Tests.{eq-eqb, ne-eqb, eqb-true, eqb-false}
 use Rattle.laws.specs.Passing.{howMany, nonePasses}
 use Rattle.laws.proofs.Bools.{by-test, clash, and-both, and-left, and-right}
 use Rattle.machine.specs.State.{Counts, counts, slotCount, stateWords, State, stateOf, encode, sound, wordsSound, reset, resetOf, resetNumber}
-use Rattle.machine.specs.Stream.{Bytes, Outcome, after, answersBytes, runOf}
-use Rattle.machine.specs.Ledger.{Entry, Ledger, overlap, unlocked, Name, nameIn, isNamed, newEntry, firstNo}
-use Rattle.machine.specs.Ledger.{questions, lacksSlot, Written, inserts, does, enters}
-use Rattle.machine.specs.Places.{slots, Reference, placesAfter, referenceStart, referenceWords}
+use Rattle.machine.specs.Stream.{Bytes, answerBytes, Outcome, after, answersBytes, runOf}
+use Rattle.machine.specs.Serve.{missVerdict, partOf, Served, servedOf}
+use Rattle.machine.specs.Serve as unit
+use Rattle.machine.specs.Ledger.{Entry, Ledger, overlap, unlocked, Name, nameIn, isNamed, firstNo}
+use Rattle.machine.specs.Ledger.{insertionQuestions, questions, lacksSlot, Written, inserts, does, enters}
+use Rattle.machine.specs.Ledger.{Miss, refused, absent, present, miss, entersInsertion, serves}
+use Rattle.machine.specs.Places.{Place, slots, Reference, displacedFrom, placesAfter, referenceStart, referenceWords}
 use Rattle.machine.specs.Format.{Reading, ReadAs}
-use Rattle.machine.specs.Demand3.{unitBytes, fedNext, fedAfter, ledgerBytes, Event, run}
+use Rattle.machine.specs.Demand3.{unitBytes, fedNext, fedAfter, ledgerBytes, InsertionSays, MissSays, Event, run, serve}
 use Rattle.machine.specs.Good.{ReferenceGood}
 use Rattle.machine.specs.Reference.{nameOf, displacedName, referenceNext, referenceAfter, referenceBytes, Leaves}
-use Rattle.machine.specs.Reference.{RunTold, ResetTold, returned, EventsTold, Told}
+use Rattle.machine.specs.Reference.{missName, missNext, ServeLeaves, Hands, RunTold, ServeTold, PartTold, ResetTold, returned, EventsTold, Told}
+use Rattle.machine.specs.declared.Refusal.the-variants as refusal
 use Rattle.machine.specs.declared.Command.{Command}
 use Rattle.machine.specs.declared.Command.the-variants as command
 use Rattle.machine.proofs.State.{reset-sound, sound-encode, words-sound}
 use Rattle.machine.proofs.Runs.{run-unsound}
 use Rattle.machine.proofs.Alike.{ReferenceAlike}
-use Rattle.machine.proofs.Demand3.{step-says, alike-sound, alike-words, commands-agree, read-words}
+use Rattle.machine.proofs.Questions.{refused-bytes}
+use Rattle.machine.proofs.Misses.{hands}
+use Rattle.machine.proofs.Demand3.{ServeAlike, serve-says, step-says, alike-sound, alike-words, commands-agree, read-words}
 use Rattle.machine.proofs.Demand3.{read-answered, read-taken, read-stop, read-front, read-past, start-alike}
-use Rattle.machine.proofs.Good.{alike-good, stateFor, good-alike, described}
+use Rattle.machine.proofs.Good.{alike-good, stateFor, good-alike, unsound-words}
 
 ruleset conj = (and-left, and-right, eqb-true)
 
@@ -59,15 +65,19 @@ name-read n l side e {d} {c} k =
     ap (λ (x : Name). inserts n l side e x) (k (full, apart, free)))
     (λ f. rw (t, f)))
 
+-- and there the unit's answer names the entry that the places pick
+own-name : (n : ℕ) (l : Ledger) (side : ℕ) (e : Entry) (s : List Place) (b : Bytes) → InsertionSays n s (l .entries side) e b
+    → inserts n l side e (nameIn b) ≡ inserts n l side e (nameOf (displacedFrom s))
+own-name n l side e s b y = name-read n l side e (λ z.
+    let (x, way, name, live, free) = y .named (y .displaced .1 z) in
+    name-is _ x name ∙ ap nameOf (sym way))
+
 module _ {n : Counts} {u : State} {k : Reference} (h : ReferenceAlike n u k) where
   own-entered : (c : Command) → enters (slotCount n) (k .ledger) c (nameIn (unitBytes u c)) ≡ enters (slotCount n) (k .ledger) c (displacedName k c)
   unfolding enters does
   own-entered (command.Write strand number value) = refl
   own-entered (command.Insert strand side flags word) = by-test (eqb (firstNo (questions (k .ledger) (command.Insert strand side flags word))) 0)
-      (λ t. rw t (name-read (slotCount n side) (k .ledger) side (newEntry (k .ledger) strand side flags word) (λ z.
-      let s = step-says n u k (command.Insert strand side flags word) h .says (eqb-true _ 0 t) in
-      let (x, way, name, live, free) = s .named (s .displaced .1 z) in
-      name-is _ x name ∙ ap nameOf (sym way))))
+      (λ t. rw t (own-name _ _ _ _ _ _ (step-says n u k (command.Insert strand side flags word) h .says (eqb-true _ 0 t))))
       (λ t. rw t)
   own-entered (command.DemapPage strand side selector flags address) = refl
   own-entered (command.DemapContext strand side selector) = refl
@@ -79,6 +89,16 @@ module _ {n : Counts} {u : State} {k : Reference} (h : ReferenceAlike n u k) whe
 
   own-next : (c : Command) → fedNext n u k c ≡ referenceNext (slotCount n) k c
   own-next c = ap (λ (w : Written). record { ledger = w .ledger; places = placesAfter (slotCount n) k c }) (own-entered c)
+
+-- ---- a served miss
+own-served : (n : Counts) (k : Reference) (strand side : ℕ) (m : Miss) (b : Bytes) → MissSays n k strand side m b
+    → serves (slotCount n) (k .ledger) strand side m (nameIn b) ≡ serves (slotCount n) (k .ledger) strand side m (missName k side)
+unfolding entersInsertion
+own-served n k strand side (refused number) b y = refl
+own-served n k strand side absent b y = refl
+own-served n k strand side (present word) b y = by-test (eqb (firstNo (insertionQuestions (k .ledger) strand side word)) 0)
+    (λ t. rw t (own-name _ _ _ _ _ _ (y (eqb-true _ 0 t))))
+    (λ t. rw t)
 
 -- ---- a list of commands
 own-agree : (n : Counts) (u : State) (k : Reference) (cs : List Command) → ReferenceAlike n u k
@@ -107,6 +127,33 @@ module _ (n : Counts) (k : Reference) (g : ReferenceGood (slotCount n) k) where
   next-good : (c : Command) → ReferenceGood (slotCount n) (referenceNext (slotCount n) k c)
   next-good c = rw (own-next alike c) at (alike-good (step-says n u k c alike .alike))
 
+  -- ---- a miss
+  module _ (strand side : ℕ) (ofZero ofOther : Bytes) where
+    served : ServeAlike n k strand side (miss (k .ledger) strand side ofZero ofOther) (unit.serve u strand side ofZero ofOther)
+    served = serve-says alike strand side ofZero ofOther
+
+    own-miss : serves (slotCount n) (k .ledger) strand side (miss (k .ledger) strand side ofZero ofOther)
+        (nameIn (answerBytes (unit.serve u strand side ofZero ofOther .answer)))
+        ≡ serves (slotCount n) (k .ledger) strand side (miss (k .ledger) strand side ofZero ofOther) (missName k side)
+    own-miss = own-served n k strand side (miss (k .ledger) strand side ofZero ofOther) _ (served .says .says)
+
+    miss-next : ReferenceAlike n (unit.serve u strand side ofZero ofOther .state) (missNext (slotCount n) k strand side ofZero ofOther)
+    miss-next = rw own-miss at (served .alike)
+
+    serve-leaves :
+        let o : Served = servedOf n (referenceWords k) strand side ofZero ofOther in
+        ServeLeaves (slotCount n) k strand side ofZero ofOther (o .words) (answerBytes (o .answer))
+    unfolding servedOf
+    serve-leaves = rw (← (alike-words alike), words-sound n u good-sound, sound-encode n u good-sound) (record {
+      words = alike-words miss-next;
+      bytes = sym (served .says .bytes) ∙ ap (λ (w : Written). w .bytes) own-miss;
+    })
+
+    part-hands : Hands (k .ledger) strand side ofZero ofOther (partOf n (referenceWords k) strand side ofZero ofOther)
+    unfolding partOf missVerdict
+    part-hands = rw (← (alike-words alike), words-sound n u good-sound, sound-encode n u good-sound) (hands (alike .ledger) strand side ofZero ofOther)
+
+  -- ---- a run
   module _ (input output : Bytes) (t : Reading) (x : ReadAs input (length output) t) where
     abbrev cs : List Command
     cs = t .commands
@@ -140,15 +187,32 @@ run-told : (n : Counts) (words : List ℕ) (input output : Bytes) →
     let o : Outcome = runOf n words input output in
     RunTold (slotCount n) words input output (o .words) (o .output) (returned o)
 run-told n words input output = record {
-  unsound = λ f.
-      let e = by-test (wordsSound n words) (λ t. absurd (f (described n .sound words .0 t))) (run-unsound n words input output) in
-      rw e (refl, refl, refl, refl, refl);
+  unsound = λ f. rw (run-unsound n words input output (unsound-words n words f)) (refl, refl, refl, refl, refl);
   sound = λ k g e t x. rw e (run-leaves n k g input output t x);
+}
+
+serve-told : (n : Counts) (words : List ℕ) (strand side : ℕ) (ofZero ofOther : Bytes) →
+    let o : Served = servedOf n words strand side ofZero ofOther in
+    ServeTold (slotCount n) words strand side ofZero ofOther (o .words) (answerBytes (o .answer))
+unfolding servedOf
+serve-told n words strand side ofZero ofOther = record {
+  unsound = λ f. rw (unsound-words n words f) (refl, refused-bytes refusal.State);
+  sound = λ k g e. rw e (serve-leaves n k g strand side ofZero ofOther);
+}
+
+part-told : (n : Counts) (words : List ℕ) (strand side : ℕ) (ofZero ofOther : Bytes)
+    → PartTold (slotCount n) words strand side ofZero ofOther (partOf n words strand side ofZero ofOther)
+unfolding partOf missVerdict
+part-told n words strand side ofZero ofOther = record {
+  unsound = λ f. rw (unsound-words n words f);
+  sound = λ k g e. rw e (part-hands n k g strand side ofZero ofOther);
 }
 
 lists-told : (n : Counts) (es : List Event) (k : Reference) → ReferenceGood (slotCount n) k → EventsTold n (slotCount n) k es
 lists-told n [] k g = tt
 lists-told n (run input output ∷ es) k g = λ t x. (run-leaves n k g input output t x, lists-told n es _ (after-good n k g input output t x))
+lists-told n (serve strand side ofZero ofOther ∷ es) k g =
+    (serve-leaves n k g strand side ofZero ofOther, lists-told n es _ (alike-good (miss-next n k g strand side ofZero ofOther)))
 
 -- ---- reset
 reset-told : (n : Counts) (words : List ℕ) → ResetTold (slotCount n) words (resetOf n words) (resetNumber n words)
@@ -166,8 +230,11 @@ pub told : (n : Counts) → Told n (slotCount n)
 told n = record {
   reset = reset-told n;
   run = run-told n;
+  serve = serve-told n;
+  part = part-told n;
   start = alike-good (start-alike n);
   kept = λ k c g. next-good n k g c;
+  missed = λ k strand side ofZero ofOther g. alike-good (miss-next n k g strand side ofZero ofOther);
   lists = λ k g es. lists-told n es k g;
 }
 

@@ -18,14 +18,14 @@ use Rattle.laws.proofs.Walks.{found-at}
 use Rattle.machine.specs.Pages.{inRange, listed}
 use Rattle.machine.specs.Words.{bits, wordInsertable}
 use Rattle.machine.specs.Slots.{slotsOf, wordsOf, noSlot, isLive, keyAddress, answersTo, setUsed}
-use Rattle.machine.specs.Insertion.{removes, candidate}
+use Rattle.machine.specs.Insertion.{removes, candidate, hasSlot}
 use Rattle.machine.specs.Sound.{slotSound, sideSound}
 use Rattle.machine.specs.Registers.{registerWords, cell, register, withRegister, partition, mode, addressMask}
 use Rattle.machine.specs.Registers.{selected, tagAccess, tagAddress, tagContext, known, writable, baseAllowed}
 use Rattle.machine.specs.Registers.{configurationAllowed, allowed, registersSound, resetStrands}
 use Rattle.machine.specs.State.{slotCount, Counts, State, sideOf, withSide, withRegisters, stateWords, stateOf}
 use Rattle.machine.specs.State.{encode, reset, sideFits, sound, wordsSound}
-use Rattle.machine.specs.Questions.{Question, kindSide, flagReal, flagLocked, keyOf, insertion, asked, ask, verdict}
+use Rattle.machine.specs.Questions.{Question, kindSide, flagReal, flagLocked, keyOf, insertion, askedInsertion, asked, ask, verdict}
 use Rattle.machine.specs.Access.{judge, prepare, trapTag, trapRegisters, accessOf, settleJudged, settleFound, settle}
 use Rattle.machine.specs.declared.VirtualAddress.{VirtualAddress}
 use Rattle.machine.specs.declared.Access.{Access}
@@ -241,6 +241,25 @@ pub passed-asked : (u : State) (c : Command) → verdict u c ≡ Passed → allO
 unfolding verdict
 passed-asked u c h = ask-fine (asked u c) h
 
+-- .. and of an insertion, what 11 to 13 let pass
+pub record Insertable (u : State) (strand side flags word : ℕ) : Type 0 where
+  pub address : inRange (tagAddress (tagAccess (u .registers) strand side) .0) ≡ true
+  pub tte : wordInsertable word ≡ true
+  pub slot : hasSlot candidate (insertion u strand side flags word) (sideOf u side) ≡ true
+
+pub insertable : (u : State) (strand side flags word : ℕ) → ask (askedInsertion u strand side flags word) ≡ Passed → Insertable u strand side flags word
+unfolding askedInsertion allOf
+insertable u strand side flags word h =
+    let q = ask-fine (askedInsertion u strand side flags word) h in
+    record { address = search conj; tte = search conj; slot = search conj }
+
+pub insert-insertable : (u : State) (strand side flags word : ℕ) → verdict u (command.Insert strand side flags word) ≡ Passed
+    → (strand < 4) × (side < 2) × Insertable u strand side flags word
+unfolding asked askedInsertion allOf
+insert-insertable u strand side flags word h =
+    let q = passed-asked u (command.Insert strand side flags word) h in
+    (search conj, search conj, record { address = search conj; tte = search conj; slot = search conj })
+
 pub known-below : (number : ℕ) → known number ≡ true → number < 26
 unfolding known
 known-below number h = by-test (ltb number 6)
@@ -334,12 +353,10 @@ act-sound n u (command.Write strand number value) h v =
     let a : allowed number value ≡ true = search conj in
     sound-with-registers n u h _ (registers-written (u .registers) strand number value (sound-registers n u h) s (omega (arith, writable-below number w)) a)
 act-sound n u (command.Insert strand side flags word) h v =
-    let q = passed-asked u (command.Insert strand side flags word) v in
     let new : Slot = insertion u strand side flags word in
-    let a : inRange (tagAddress (tagAccess (u .registers) strand side) .0) ≡ true = search conj in
-    let w : wordInsertable word ≡ true = search conj in
+    let (s, d, i) = insert-insertable u strand side flags word v in
     sound-with-side n u h side _ (length-inserted candidate new (sideOf u side))
-    (sound-inserted new (insertion-sound u strand side flags word a w) candidate (sideOf u side) (sound-side n u h side .1))
+    (sound-inserted new (insertion-sound u strand side flags word (i .address) (i .tte)) candidate (sideOf u side) (sound-side n u h side .1))
 act-sound n u (command.DemapPage strand side selector flags address) h v =
     removed-sound n u side (removal.Page (keyOf (flagReal flags) (partition (u .registers) strand) (selected (u .registers) strand selector) address)) h
 act-sound n u (command.DemapContext strand side selector) h v =

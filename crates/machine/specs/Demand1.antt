@@ -1,16 +1,20 @@
 -- Demand 1: what a malformed state or command leaves as it was. Assumes nothing.
-use Prim.Native.Nat.{ℕ, _*_}
+use Prim.Native.Nat.{ℕ, _*_, _≤_}
 use mathlib.Core.Path.{_≡_}
+use mathlib.Core.Bool.{true}
 use mathlib.Core.List.{List}
 use lib.ListN.{getD, drop}
-use Rattle.machine.specs.State.{Counts, slotCount, State, stateOf}
+use Rattle.machine.specs.State.{Counts, slotCount, State, stateOf, sound}
 use Rattle.machine.specs.Step.{step}
-use Rattle.machine.specs.Stream.{Bytes, Outcome, runOf}
+use Rattle.machine.specs.Stream.{Bytes, answerBytes, Outcome, runOf}
+use Rattle.machine.specs.Serve.{serve, servedOf}
 use Rattle.machine.specs.Ledger.{line, firstNo, questions}
 use Rattle.machine.specs.Places.{Reference, referenceWords}
 use Rattle.machine.specs.Demand3.{unitBytes}
 use Rattle.machine.specs.Good.{ReferenceGood, GoodWords}
 use Rattle.machine.specs.declared.Command.{Command}
+use Rattle.machine.specs.declared.Refusal.the-variants as refusal
+use Rattle.machine.specs.declared.Answer.the-variants as answer
 
 pub record Demand1 : Type 0 where
   -- number 1: words that are not sound stay as they are, and so does every byte of the output
@@ -25,3 +29,9 @@ pub record Demand1 : Type 0 where
   pub past : (n : Counts) (words : List ℕ) (input output : Bytes) →
       let o : Outcome = runOf n words input output in
       drop (o .answered * 24) (o .output) ≡ drop (o .answered * 24) output
+  -- a served miss: words that are not sound stay; and so does the state where the answer is a refusal or "not in table"
+  pub missUnsound : (n : Counts) (words : List ℕ) (strand side : ℕ) (ofZero ofOther : Bytes) → (GoodWords (slotCount n) words → ⊥)
+      → servedOf n words strand side ofZero ofOther ≡ record { words = words; answer = answer.Refused refusal.State }
+  pub missRefused : (n : Counts) (u : State) (strand side : ℕ) (ofZero ofOther : Bytes) → sound n u ≡ true
+      → 5 ≤ getD (answerBytes (serve u strand side ofZero ofOther .answer)) 0 0
+      → serve u strand side ofZero ofOther .state ≡ u

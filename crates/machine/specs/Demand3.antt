@@ -1,4 +1,4 @@
--- Demand 3: what is claimed of every list of runs from reset.
+-- Demand 3: what is claimed of every list of runs and served misses from reset.
 -- Assumes nothing.
 use Prim.Native.Nat.{ℕ, _*_, _-_, _≤_, _<_}
 use mathlib.Core.Path.{_≡_}
@@ -11,11 +11,12 @@ use Rattle.laws.specs.Passing.{howMany}
 use Rattle.machine.specs.State.{Counts, slotCount, State, stateOf, encode, reset, wordsSound}
 use Rattle.machine.specs.Step.{step}
 use Rattle.machine.specs.Stream.{Bytes, answerBytes, runOf}
+use Rattle.machine.specs.Serve.{servedOf}
 use Rattle.machine.specs.Views.{View, insertion, access, other, view}
 use Rattle.machine.specs.Ledger.{Entry, Ledger, overlap, unlocked, line, Written, nameIn, isNamed, newEntry}
 use Rattle.machine.specs.Ledger.{firstNo, questions, Asked, usedAddress, askedSide, looksUp, foundBy, misses}
-use Rattle.machine.specs.Ledger.{hits, enters}
-use Rattle.machine.specs.Places.{Place, Reference, displacedFrom, referenceTold, referenceStart, referenceWords}
+use Rattle.machine.specs.Ledger.{hits, enters, insertionQuestions, Miss, refused, absent, present, miss, serves}
+use Rattle.machine.specs.Places.{Place, Reference, displacedFrom, referenceTold, missTold, referenceStart, referenceWords}
 use Rattle.machine.specs.Format.{Reading, ReadAs}
 use Rattle.machine.specs.Good.{ReferenceGood, GoodWords}
 use Rattle.machine.specs.declared.Command.{Command}
@@ -93,18 +94,44 @@ pub record RunSays (n : Counts) (words : List ℕ) (k : Reference) (input output
   pub past : drop (length (t .commands) * 24) (runOf n words input output .output) ≡ drop (length (t .commands) * 24) output
   pub commands : CommandsSay n (stateOf n words) k (t .commands)
 
+-- ---- one served miss
+-- the unit's answer, from any words
+abbrev pub missBytes : Counts → List ℕ → ℕ → ℕ → Bytes → Bytes → Bytes
+missBytes n words strand side ofZero ofOther = answerBytes (servedOf n words strand side ofZero ofOther .answer)
+
+-- of a miss whose entry agrees and that 11 and 12 do not refuse, what is said of insertions is said
+abbrev pub MissSays : Counts → Reference → ℕ → ℕ → Miss → Bytes → Type 0
+MissSays n k strand side (refused number) b = Unit {0}
+MissSays n k strand side absent b = Unit {0}
+MissSays n k strand side (present word) b =
+    firstNo (insertionQuestions (k .ledger) strand side word) ≡ 0
+    → InsertionSays (slotCount n side) (k .places side) (k .ledger .entries side) (newEntry (k .ledger) strand side 0 word) b
+
+-- its 24 bytes are the ledger's, which is told the entry that they name as displaced
+pub record ServeSays (n : Counts) (k : Reference) (strand side : ℕ) (m : Miss) (b : Bytes) : Type 0 where
+  pub bytes : serves (slotCount n) (k .ledger) strand side m (nameIn b) .bytes ≡ b
+  pub says : MissSays n k strand side m b
+
 -- ---- every list
--- what a caller does: a run, with its bytes and the output that it lends
+-- what a caller does: a run, with its bytes and the output that it lends; or the serving of a miss, of a strand and a side, with its two tables
 pub data Event : Type 0 where
   run : Bytes → Bytes → Event
+  serve : ℕ → ℕ → Bytes → Bytes → Event
 
--- each run on the words that the last one left
+-- one event: what is said of it, and then of the words and the reference that it leaves
+abbrev pub EventSays : Counts → List ℕ → Reference → Event → (List ℕ → Reference → Type 0) → Type 0
+EventSays n words k (run input output) Then =
+    (t : Reading) → ReadAs input (length output) t
+    → RunSays n words k input output t × Then (runOf n words input output .words) (fedAfter n (stateOf n words) k (t .commands))
+EventSays n words k (serve strand side ofZero ofOther) Then =
+    let b : Bytes = missBytes n words strand side ofZero ofOther in
+    let m : Miss = miss (k .ledger) strand side ofZero ofOther in
+    ServeSays n k strand side m b × Then (servedOf n words strand side ofZero ofOther .words) (missTold (slotCount n) k strand side m (nameIn b))
+
+-- each on the words that the last one left, which are those of the reference
 abbrev pub EventsSay : Counts → List ℕ → Reference → List Event → Type 0
 EventsSay n words k [] = words ≡ referenceWords k
-EventsSay n words k (run input output ∷ es) =
-    (words ≡ referenceWords k)
-    × ((t : Reading) → ReadAs input (length output) t
-    → RunSays n words k input output t × EventsSay n (runOf n words input output .words) (fedAfter n (stateOf n words) k (t .commands)) es)
+EventsSay n words k (e ∷ es) = (words ≡ referenceWords k) × EventSays n words k e (λ w l. EventsSay n w l es)
 
 unfoldable pub Demand3 : Counts → Type 0
 Demand3 n = (es : List Event) → EventsSay n (encode (reset n)) (referenceStart (slotCount n)) es
@@ -113,5 +140,5 @@ Demand3 n = (es : List Event) → EventsSay n (encode (reset n)) (referenceStart
 pub record Described (n : Counts) : Type 0 where
   -- number 1 asks for what the second text of it says, and for nothing else
   pub sound : (words : List ℕ) → (wordsSound n words ≡ true) ↔ GoodWords (slotCount n) words
-  -- and from there every list of runs is answered as from reset
-  pub runs : (k : Reference) → ReferenceGood (slotCount n) k → (es : List Event) → EventsSay n (referenceWords k) k es
+  -- and from there every list is answered as from reset
+  pub lists : (k : Reference) → ReferenceGood (slotCount n) k → (es : List Event) → EventsSay n (referenceWords k) k es

@@ -13,7 +13,9 @@ use Rattle.machine.specs.Insertion.{isEmpty}
 use Rattle.machine.specs.Registers.{partition, selected}
 use Rattle.machine.specs.State.{Counts, State, sideOf, reset, sound}
 use Rattle.machine.specs.Questions.{insertion, verdict}
-use Rattle.machine.specs.Step.{step}
+use Rattle.machine.specs.Step.{act, step}
+use Rattle.machine.specs.Stream.{Bytes}
+use Rattle.machine.specs.Serve.{serve}
 use Rattle.machine.specs.Ledger.{Entry, overlap, unlocked, isAt, inContext}
 use Rattle.machine.specs.declared.VirtualAddress.{VirtualAddress}
 use Rattle.machine.specs.declared.Slot.{Slot}
@@ -57,13 +59,18 @@ pub data Removes (u : State) (side : ℕ) (e : Entry) : Command → Type 0 where
       → unlocked e ≡ true
       → Removes u side e (command.Insert strand side flags word)
 
--- ---- the two laws on one command that later ones are inductions over
--- a live entry stays, with the same word, or a command that was accepted is one of those
-unfoldable pub Framed : Type 0
-Framed =
-    (n : Counts) (u : State) (c : Command) (side : ℕ) (e : Entry) → sound n u ≡ true → side < 2 → Lives u side e
-    → Lives (step u c .state) side e ⊎ ((verdict u c ≡ Passed) × Removes u side e c)
+-- ---- the laws on one command and one served miss that later ones are inductions over
+-- a live entry stays, with the same word, or a command that was accepted is one of those, or the miss was served by an insertion that is
+pub record Framed : Type 0 where
+  pub byCommand : (n : Counts) (u : State) (c : Command) (side : ℕ) (e : Entry) → sound n u ≡ true → side < 2 → Lives u side e
+      → Lives (step u c .state) side e ⊎ ((verdict u c ≡ Passed) × Removes u side e c)
+  pub byMiss : (n : Counts) (u : State) (strand at : ℕ) (ofZero ofOther : Bytes) (side : ℕ) (e : Entry) → sound n u ≡ true → side < 2 → Lives u side e
+      → Lives (serve u strand at ofZero ofOther .state) side e
+      ⊎ ((word : ℕ) × (serve u strand at ofZero ofOther ≡ act u (command.Insert strand at 0 word)) × Removes u side e (command.Insert strand at 0 word))
 
--- reset is sound, and every command, refused or not, leaves a sound state
-unfoldable pub SoundKept : Type 0
-SoundKept = (n : Counts) → (sound n (reset n) ≡ true) × ((u : State) (c : Command) → sound n u ≡ true → sound n (step u c .state) ≡ true)
+-- reset is sound, and every command and served miss, refused or not, leaves a sound state
+pub record SoundKept : Type 0 where
+  pub byReset : (n : Counts) → sound n (reset n) ≡ true
+  pub byCommand : (n : Counts) (u : State) (c : Command) → sound n u ≡ true → sound n (step u c .state) ≡ true
+  pub byMiss : (n : Counts) (u : State) (strand side : ℕ) (ofZero ofOther : Bytes) → sound n u ≡ true
+      → sound n (serve u strand side ofZero ofOther .state) ≡ true

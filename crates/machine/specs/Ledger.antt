@@ -1,5 +1,6 @@
--- Document 01, "The ledger": the plain machine of demand 3, a text of its own. With the unit it shares the type of a decoded command and the
--- kit's library (lists, booleans, comparisons); its own list functions are in laws/specs/Passing. Assumes nothing.
+-- Document 01, "The ledger": the plain machine of demand 3, a text of its own, with the misses that it serves (document 02, U1). With the unit it
+-- shares the type of a decoded command and the kit's library (lists, booleans, comparisons); its own list functions are in laws/specs/Passing.
+-- Assumes nothing.
 use Prim.Native.Nat.{ℕ, zero, suc, _+_, _*_, _-_, _/_, _%_, _^_}
 use mathlib.Core.Bool.{Bool, true, not, cond, _&&_, _||_, Bool·beq}
 use mathlib.Core.Option.{Option, none, some}
@@ -168,12 +169,15 @@ firstNo (q ∷ qs) = cond (q .1) (firstNo qs) (q .0)
 abbrev pub selectorGood : ℕ → ℕ → Bool
 selectorGood side selector = leb selector 2 && not (eqb selector 1 && eqb side 0)
 
+-- 11 and 12, the last two of every insertion
+unfoldable pub insertionQuestions : Ledger → ℕ → ℕ → ℕ → List (ℕ × Bool)
+insertionQuestions l strand side word = (11, addressGood (tagOf l strand side - tagOf l strand side % 8192)) ∷ (12, wordGood word) ∷ []
+
 -- 5 to 12
 unfoldable pub questions : Ledger → Command → List (ℕ × Bool)
 questions l (command.Write strand number value) = (5, leb strand 3) ∷ (9, registerWritable number) ∷ (10, valueGood number value) ∷ []
 questions l (command.Insert strand side flags word) =
-    (5, leb strand 3) ∷ (6, leb side 1) ∷ (8, leb flags 3)
-    ∷ (11, addressGood (tagOf l strand side - tagOf l strand side % 8192)) ∷ (12, wordGood word) ∷ []
+    (5, leb strand 3) ∷ (6, leb side 1) ∷ (8, leb flags 3) ∷ insertionQuestions l strand side word
 questions l (command.DemapPage strand side selector flags address) =
     (5, leb strand 3) ∷ (6, leb side 1) ∷ (7, selectorGood side selector) ∷ (8, leb flags 1) ∷ (11, addressGood (address .0)) ∷ []
 questions l (command.DemapContext strand side selector) = (5, leb strand 3) ∷ (6, leb side 1) ∷ (7, selectorGood side selector) ∷ []
@@ -314,14 +318,24 @@ accesses l a = firstFit (earlySteps l a) (lookedUp l a (find (foundBy l a) (l .e
 unfoldable pub pointerOf : ℕ → ℕ → ℕ → ℕ
 pointerOf base code address = base - base % 2 ^ (13 + base % 16) + address / codeBytes code % 2 ^ (9 + base % 16) * 16
 
--- both pointers of a side; whether the context in tag access is 0 says by which registers
+-- whether the context in tag access is 0 says by which registers: 0 where it is, else 1
+abbrev pub setOf : Ledger → ℕ → ℕ → ℕ
+setOf l strand side = cond (eqb (tagOf l strand side % 8192) 0) 0 1
+
+-- the base of ps0 (k 0) or ps1 (k 1), and the configuration
+abbrev pub baseOf : Ledger → ℕ → ℕ → ℕ → ℕ
+baseOf l strand side k = l .registers strand (8 + 4 * side + 2 * setOf l strand side + k)
+
+abbrev pub configurationOf : Ledger → ℕ → ℕ → ℕ
+configurationOf l strand side = l .registers strand (16 + 2 * side + setOf l strand side)
+
+-- both pointers of a side
 unfoldable pub pointers : Ledger → ℕ → ℕ → Written
 pointers l strand side =
     let tag : ℕ = tagOf l strand side in
-    let other : ℕ = cond (eqb (tag % 8192) 0) 0 1 in
-    let configuration : ℕ = l .registers strand (16 + 2 * side + other) in
-    let base : ℕ → ℕ = λ k. l .registers strand (8 + 4 * side + 2 * other + k) in
-    answers l (line 3 0 0 0 (pointerOf (base 0) (configuration % 8) (tag - tag % 8192)) (pointerOf (base 1) (configuration / 256 % 8) (tag - tag % 8192)))
+    let configuration : ℕ = configurationOf l strand side in
+    answers l (line 3 0 0 0 (pointerOf (baseOf l strand side 0) (configuration % 8) (tag - tag % 8192))
+    (pointerOf (baseOf l strand side 1) (configuration / 256 % 8) (tag - tag % 8192)))
 
 -- ---- one command: what the ledger does that no question refused. n is the slot count of each side; d the entry that the unit's answer names
 unfoldable pub does : (ℕ → ℕ) → Ledger → Command → Name → Written
@@ -342,3 +356,65 @@ unfoldable pub enters : (ℕ → ℕ) → Ledger → Command → Name → Writte
 enters n l c d =
     let number : ℕ = firstNo (questions l c) in
     cond (eqb number 0) (does n l c d) (answers l (line 5 number 0 0 0 0))
+
+-- ---- a miss, served from two lent tables: of context zero, and of the others (document 02, U1)
+abbrev pub tableFor : Ledger → ℕ → ℕ → List ℕ → List ℕ → List ℕ
+tableFor l strand side ofZero ofOther = cond (eqb (tagOf l strand side % 8192) 0) ofZero ofOther
+
+-- N of ps0: 8 KB doubled N times is the table's length, and the entry stands where ps0's pointer would point if the table were at 0
+abbrev pub tableBytes : Ledger → ℕ → ℕ → ℕ
+tableBytes l strand side = 0x2000 * 2 ^ (baseOf l strand side 0 % 16)
+
+abbrev pub missCode : Ledger → ℕ → ℕ → ℕ
+missCode l strand side = configurationOf l strand side % 8
+
+unfoldable pub entryPlace : Ledger → ℕ → ℕ → ℕ
+entryPlace l strand side =
+    let tag : ℕ = tagOf l strand side in
+    pointerOf (baseOf l strand side 0 % 16) (missCode l strand side) (tag - tag % 8192)
+
+-- 5, 6 and 14; they are all that handing back asks
+unfoldable pub missQuestions : Ledger → ℕ → ℕ → List ℕ → List ℕ → List (ℕ × Bool)
+missQuestions l strand side ofZero ofOther =
+    (5, leb strand 3) ∷ (6, leb side 1) ∷ (14, eqb (length (tableFor l strand side ofZero ofOther)) (tableBytes l strand side)) ∷ []
+
+-- a TSB's tag is one number: 2^48 times the context, and the address in units of 4 MB; of a 256 MB page it counts in units of 256 MB
+unfoldable pub tagAgrees : Ledger → ℕ → ℕ → ℕ → Bool
+tagAgrees l strand side tag =
+    let missed : ℕ = tagOf l strand side in
+    cond (eqb (missCode l strand side) 5)
+    (eqb (tag / 64) (missed % 8192 * 2 ^ 42 + missed / 0x1000_0000 % 2 ^ 36))
+    (eqb tag (missed % 8192 * 2 ^ 48 + missed / 0x40_0000 % 2 ^ 42))
+
+-- v is set, and the size is ps0's
+abbrev pub wordAgrees : Ledger → ℕ → ℕ → ℕ → Bool
+wordAgrees l strand side word = (leb (2 ^ 63) word && ltb word (2 ^ 64)) && eqb (word % 16) (missCode l strand side)
+
+-- what the tables have for a miss: a refusal, an entry that does not agree, or one that does, by its word
+pub data Miss : Type 0 where
+  refused : ℕ → Miss
+  absent : Miss
+  present : ℕ → Miss
+
+-- of the entry that stands first in the bytes
+unfoldable pub missIn : Ledger → ℕ → ℕ → List ℕ → Miss
+missIn l strand side entry =
+    let word : ℕ = valueFrom 0 (take 8 (drop 8 entry)) in
+    cond (tagAgrees l strand side (valueFrom 0 (take 8 entry)) && wordAgrees l strand side word) (present word) absent
+
+unfoldable pub miss : Ledger → ℕ → ℕ → List ℕ → List ℕ → Miss
+miss l strand side ofZero ofOther =
+    let number : ℕ = firstNo (missQuestions l strand side ofZero ofOther) in
+    cond (eqb number 0) (missIn l strand side (drop (entryPlace l strand side) (tableFor l strand side ofZero ofOther))) (refused number)
+
+-- an insertion from 11 on
+unfoldable pub entersInsertion : (ℕ → ℕ) → Ledger → ℕ → ℕ → ℕ → ℕ → Name → Written
+entersInsertion n l strand side flags word d =
+    let number : ℕ = firstNo (insertionQuestions l strand side word) in
+    cond (eqb number 0) (inserts (n side) l side (newEntry l strand side flags word) d) (answers l (line 5 number 0 0 0 0))
+
+-- the entry goes in unlocked and virtual
+abbrev pub serves : (ℕ → ℕ) → Ledger → ℕ → ℕ → Miss → Name → Written
+serves n l strand side (refused number) d = answers l (line 5 number 0 0 0 0)
+serves n l strand side absent d = answers l (line 6 0 0 0 0 0)
+serves n l strand side (present word) d = entersInsertion n l strand side 0 word d

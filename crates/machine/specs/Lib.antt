@@ -10,6 +10,7 @@ pub mod Access
 pub mod Tsb
 pub mod Step
 pub mod Stream
+pub mod Serve
 pub mod Views
 pub mod Ledger
 pub mod Places

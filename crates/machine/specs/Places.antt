@@ -10,7 +10,7 @@ use lib.ListN.{replicate}
 use Rattle.laws.specs.Passing.{nonePasses, find}
 use Rattle.machine.specs.Ledger.{Entry, Ledger, start, unlocked, overlap, contextPicked, oneIf, Name, newEntry}
 use Rattle.machine.specs.Ledger.{firstNo, questions, lacksSlot, isAt, inContext, inPartition, Asked, usedAddress}
-use Rattle.machine.specs.Ledger.{askedSide, looksUp, foundBy, enters}
+use Rattle.machine.specs.Ledger.{askedSide, looksUp, foundBy, enters, insertionQuestions, Miss, refused, absent, present, serves}
 use Rattle.machine.specs.declared.Command.{Command}
 use Rattle.machine.specs.declared.Command.the-variants as command
 
@@ -113,10 +113,25 @@ moved n k (command.Pointers strand side) = k .places
 unfoldable pub placesAfter : (ℕ → ℕ) → Reference → Command → ℕ → List Place
 placesAfter n k c = cond (eqb (firstNo (questions (k .ledger) c)) 0) (moved n k c) (k .places)
 
+-- an insertion from 11 on
+unfoldable pub placesInserted : (ℕ → ℕ) → Reference → ℕ → ℕ → ℕ → ℕ → ℕ → List Place
+placesInserted n k strand side flags word =
+    cond (eqb (firstNo (insertionQuestions (k .ledger) strand side word)) 0) (moved n k (command.Insert strand side flags word)) (k .places)
+
+-- a miss that is served by an entry moves them as its insertion does
+abbrev pub placesServed : (ℕ → ℕ) → Reference → ℕ → ℕ → Miss → ℕ → List Place
+placesServed n k strand side (refused number) = k .places
+placesServed n k strand side absent = k .places
+placesServed n k strand side (present word) = placesInserted n k strand side 0 word
+
 -- ---- both
 -- after one command: the ledger is told the name d of the displaced entry, the places nothing
 abbrev pub referenceTold : (ℕ → ℕ) → Reference → Command → Name → Reference
 referenceTold n k c d = record { ledger = enters n (k .ledger) c d .ledger; places = placesAfter n k c }
+
+-- after a miss, in the same way
+abbrev pub missTold : (ℕ → ℕ) → Reference → ℕ → ℕ → Miss → Name → Reference
+missTold n k strand side m d = record { ledger = serves n (k .ledger) strand side m d .ledger; places = placesServed n k strand side m }
 
 -- reset: no entry, every place empty
 abbrev pub referenceStart : (ℕ → ℕ) → Reference

@@ -22,6 +22,7 @@ use Rattle.machine.specs.declared.Verdict.the-variants.{Passed, Refused}
 
 -- the document's number of a refusal
 abbrev pub refusalNumber : Refusal → ℕ
+refusalNumber refusal.State = 1
 refusalNumber refusal.Strand = 5
 refusalNumber refusal.Side = 6
 refusalNumber refusal.Selector = 7
@@ -31,6 +32,7 @@ refusalNumber refusal.Value = 10
 refusalNumber refusal.Address = 11
 refusalNumber refusal.Word = 12
 refusalNumber refusal.NoSlot = 13
+refusalNumber refusal.Table = 14
 
 -- ---- what the questions speak of
 -- the side of an access: a fetch is kind 0
@@ -74,6 +76,14 @@ pub record Question : Type 0 where
 abbrev pub question : Refusal → Bool → Question
 question r b = record { refusal = r; fine = b }
 
+-- 11 to 13, which every insertion ends in: that of a command, and that of a served miss (document 02, U1)
+unfoldable pub askedInsertion : State → ℕ → ℕ → ℕ → ℕ → List Question
+askedInsertion u strand side flags word =
+    question refusal.Address (inRange (tagAddress (tagAccess (u .registers) strand side) .0))
+    ∷ question refusal.Word (wordInsertable word)
+    ∷ question refusal.NoSlot (hasSlot candidate (insertion u strand side flags word) (sideOf u side))
+    ∷ []
+
 unfoldable pub asked : State → Command → List Question
 asked u (command.Write strand number value) =
     question refusal.Strand (ltb strand 4)
@@ -84,10 +94,7 @@ asked u (command.Insert strand side flags word) =
     question refusal.Strand (ltb strand 4)
     ∷ question refusal.Side (ltb side 2)
     ∷ question refusal.Operand (ltb flags 4)
-    ∷ question refusal.Address (inRange (tagAddress (tagAccess (u .registers) strand side) .0))
-    ∷ question refusal.Word (wordInsertable word)
-    ∷ question refusal.NoSlot (hasSlot candidate (insertion u strand side flags word) (sideOf u side))
-    ∷ []
+    ∷ askedInsertion u strand side flags word
 asked u (command.DemapPage strand side selector flags address) =
     question refusal.Strand (ltb strand 4)
     ∷ question refusal.Side (ltb side 2)

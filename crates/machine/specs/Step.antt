@@ -7,7 +7,7 @@ use Rattle.machine.specs.Registers.{register, withRegister, partition, s
 use Rattle.machine.specs.Tsb.{pointer}
 use Rattle.machine.specs.Insertion.{removed, removes, candidate, inserted, placed}
 use Rattle.machine.specs.State.{State, sideOf, withSide, withRegisters}
-use Rattle.machine.specs.Questions.{flagReal, keyOf, insertion, verdict}
+use Rattle.machine.specs.Questions.{flagReal, keyOf, insertion, askedInsertion, ask, verdict}
 use Rattle.machine.specs.Access.{Stepped, stepped, accessOf, accessTo}
 use Rattle.machine.specs.declared.Slot.{Slot}
 use Rattle.machine.specs.declared.Removal.{Removal}
@@ -61,3 +61,7 @@ stepBy (Refused r) u c = stepped u (answer.Refused r)
 
 unfoldable pub step : State → Command → Stepped
 step u c = stepBy (verdict u c) u c
+
+-- an insertion once 11 is next to be asked
+unfoldable pub insertStep : State → ℕ → ℕ → ℕ → ℕ → Stepped
+insertStep u strand side flags word = stepBy (ask (askedInsertion u strand side flags word)) u (command.Insert strand side flags word)

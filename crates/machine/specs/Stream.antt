@@ -100,6 +100,8 @@ fieldsOf (answer.Read v w) = fields 3 0 0 0 v w
 fieldsOf (answer.Displaced d) = fields 4 0 (d .partition) (tick (d .real)) (d .place) (d .word)
 -- refused: a has the number
 fieldsOf (answer.Refused r) = fields 5 (refusalNumber r) 0 0 0 0
+-- not in table (document 02, U1)
+fieldsOf answer.NotInTable = fields 6 0 0 0 0 0
 
 unfoldable pub answerBytes : Answer → Bytes
 answerBytes x = let f : Fields = fieldsOf x in answerOf (f .kind) (f .a) (f .b) (f .c) (f .first) (f .second)

@@ -15,8 +15,15 @@ unfoldable pub tsbPointer : ℕ → ℕ → ℕ → ℕ
 tsbPointer base code address = base / 2 ^ (13 + base % 2 ^ 4) * 2 ^ (13 + base % 2 ^ 4) + tsbOffset (base % 2 ^ 4) code address
 
 -- whether the context in tag access is 0 says by which registers; size 0 is ps0, 1 is ps1
+abbrev pub missContext : List ℕ → ℕ → ℕ → ℕ
+missContext file strand side = tagContext (tagAccess file strand side)
+
+abbrev pub tsbBase : List ℕ → ℕ → ℕ → ℕ → ℕ
+tsbBase file strand side size = register file strand (baseNumber side (missContext file strand side) size)
+
+abbrev pub tsbCode : List ℕ → ℕ → ℕ → ℕ → ℕ
+tsbCode file strand side size = bits (8 * size) 3 (register file strand (configurationNumber side (missContext file strand side)))
+
 abbrev pub pointer : List ℕ → ℕ → ℕ → ℕ → ℕ
 pointer file strand side size =
-    let tag : ℕ = tagAccess file strand side in
-    let configuration : ℕ = register file strand (configurationNumber side (tagContext tag)) in
-    tsbPointer (register file strand (baseNumber side (tagContext tag) size)) (bits (8 * size) 3 configuration) (tagAddress tag .0)
+    tsbPointer (tsbBase file strand side size) (tsbCode file strand side size) (tagAddress (tagAccess file strand side) .0)

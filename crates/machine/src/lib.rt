@@ -54,8 +54,10 @@ pub const SIDE_WORDS: usize = SIDE_SLOTS * SLOT_WORDS;
 
 pub const STATE_WORDS: usize = REGISTER_WORDS + 2 * SIDE_WORDS;
 
-// The bytes of an answer.
+// The bytes of an answer, and of an entry of a TSB.
 pub const ANSWER_BYTES: usize = 24;
+
+pub const TSB_ENTRY_BYTES: usize = 16;
 
 // The three kinds of address. None is read for another: each crossing is a function with a name.
 pub struct VirtualAddress(pub u64);
@@ -192,8 +194,9 @@ pub enum Command {
     },
 }
 
-// Why a command that was taken did not act: numbers 5 to 13, in their order.
+// Why a command that was taken did not act (5 to 13), or a call on a miss (1, 5, 6, 11 to 14): by their numbers.
 pub enum Refusal {
+    State,
     Strand,
     Side,
     Selector,
@@ -203,6 +206,7 @@ pub enum Refusal {
     Address,
     Word,
     NoSlot,
+    Table,
 }
 
 // What the questions before a command say.
@@ -274,7 +278,7 @@ pub struct Displaced {
     pub word: u64,
 }
 
-// What a command answers. The trap and the real bit stand third in what they belong to and so share a place: fewer instructions an answer.
+// What a command answers, and a served miss. The trap and the real bit stand third in what they belong to and so share a place: fewer instructions an answer.
 pub enum Answer {
     Done(u64),
     Physical(Translation),
@@ -282,6 +286,7 @@ pub enum Answer {
     Read(u64, u64),
     Displaced(Displaced),
     Refused(Refusal),
+    NotInTable,
 }
 
 // What stands at a position of the stream: a command and its width, or the number that ends the run.
@@ -296,6 +301,16 @@ pub struct Report {
     pub answered: usize,
     pub taken: usize,
     pub stop: u8,
+}
+
+// The part of a lent table that is handed back: of the other one where `other` is 1, else of that for context zero; or a number, and an
+// empty part.
+#[repr(C)]
+pub struct Part {
+    pub number: u8,
+    pub other: u8,
+    pub start: usize,
+    pub length: usize,
 }
 
 // The bytes of an answer. The other clauses hold only while their theorems are proved, so the gate asks for them.

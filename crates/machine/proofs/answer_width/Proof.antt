@@ -1,28 +1,27 @@
 -- `machine::answer_width` meets its contract, which holds the theorems of the crate.
 use mathlib.Core.Path.{refl}
-use Rattle.machine.specs.Frame.{Framed, SoundKept}
+use Rattle.machine.specs.Frame.{SoundKept}
 use Rattle.machine.proofs.State.{reset-sound, step-sound}
 use Rattle.machine.proofs.Bytes.{answer-length}
 use Rattle.machine.proofs.Demand1.{demand1}
 use Rattle.machine.proofs.Demand2.{demand2}
-use Rattle.machine.proofs.Demand3.{demand3}
-use Rattle.machine.proofs.Good.{described}
+use Rattle.machine.proofs.Demand3.{alike-sound, serve-says, demand3}
+use Rattle.machine.proofs.Good.{state-alike, described}
 use Rattle.machine.proofs.Readable.{readable}
 use Rattle.machine.proofs.Reference.{told, sold}
 use Rattle.machine.proofs.Examples.{starred}
 use Rattle.machine.proofs.Format.{decodes}
-use Rattle.machine.proofs.Frame.{frame}
+use Rattle.machine.proofs.Frame.{framed}
 use Rattle.machine.proofs.Printed.{printed-run}
 use Rattle.machine.proofs.answer_width.Statement.{statement}
 use Rattle.machine.proofs.answer_width.Tie as tie
 
 kept : SoundKept
-unfolding SoundKept
-kept n = (reset-sound n, step-sound n)
-
-framed : Framed
-unfolding Framed
-framed = frame
+kept = record {
+  byReset = reset-sound;
+  byCommand = step-sound;
+  byMiss = λ n u strand side ofZero ofOther h. alike-sound n _ _ (serve-says (state-alike n u h) strand side ofZero ofOther .alike .ledger);
+}
 
 returns : tie.Need-returns
 returns c = (
