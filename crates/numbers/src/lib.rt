@@ -42,6 +42,7 @@ pub fn refusal_number(refusal: Refusal) -> u64
     ensures { λ r. ⌜ r ≡ refusalNumber refusal ⌝ }
 {
     match refusal {
+        Refusal::State => 1,
         Refusal::Strand => 5,
         Refusal::Side => 6,
         Refusal::Selector => 7,
@@ -51,5 +52,6 @@ pub fn refusal_number(refusal: Refusal) -> u64
         Refusal::Address => 11,
         Refusal::Word => 12,
         Refusal::NoSlot => 13,
+        Refusal::Table => 14,
     }
 }
