@@ -22,9 +22,12 @@ abbrev pub After : State → Command → ℕ → Type 0
 After u c k = Left (verdict u c) (drop k (asked u c))
 
 -- before the first, all
+pub every : (qs : List Question) → Left (ask qs) qs
+every qs = record { decides = refl }
+
 pub all : (u : State) (c : Command) → Left (verdict u c) (asked u c)
 unfolding verdict
-all u c = record { decides = refl }
+all u c = every (asked u c)
 
 module _ {v : Verdict} {r : Refusal} {b : Bool} {qs : List Question} where
   -- a "yes" leaves those behind it
