@@ -12,7 +12,7 @@ use Rattle.machine.specs.Insertion.{candidate, placed}
 use Rattle.machine.specs.Sound.{slotSound, sideSound}
 use Rattle.machine.specs.Registers.{known, writable}
 use Rattle.machine.specs.State.{State}
-use Rattle.machine.specs.Questions.{asked, verdict}
+use Rattle.machine.specs.Questions.{asked, askedInsertion, verdict}
 use Rattle.machine.specs.declared.Slot.{Slot}
 use Rattle.machine.specs.declared.Placed.{Placed}
 use Rattle.machine.specs.declared.Placed.the-variants.{Done, Displaced, Refused}
@@ -29,7 +29,7 @@ use Rattle.mmu.specs.Fits.{PlaceFits, OperandsFit}
 ruleset conj = (and-left, and-right, eqb-true, ltb-true)
 
 pub passed-fit : (u : State) (c : Command) → verdict u c ≡ Passed → OperandsFit c
-unfolding asked allOf
+unfolding asked askedInsertion allOf
 passed-fit u (command.Write strand number value) v =
     let q = passed-asked u (command.Write strand number value) v in
     let w : writable number ≡ true = search conj in

@@ -4,7 +4,7 @@ ghost use Prim.Native.Nat.{_+_, _^_, _<_};
 ghost use Rattle.machine.specs.Slots.{contextOf};
 ghost use Rattle.machine.specs.State.{stateIn};
 ghost use Rattle.state.specs.Calls.{Lent, SoundIn, Did};
-ghost use Rattle.machine.specs.Step.{displacedOf, placedAnswer, demap, act, step};
+ghost use Rattle.machine.specs.Step.{displacedOf, placedAnswer, demap, act, step, insertStep};
 ghost use Rattle.machine.specs.declared.Command.the-variants as command;
 ghost use Rattle.mmu.specs.Fits.{PlaceFits, Ready};
 use machine::Answer;
@@ -44,13 +44,25 @@ fn placed_to_answer(placed: Placed) -> Answer
 
 // An insertion that passed its questions.
 fn act_insert(state: &mut [u64], strand: u8, side: u8, flags: u8, word: u64) -> Answer
-    requires { ⌜ Ready (now state) (command.Insert strand side flags word) ⌝ }
+    requires { ⌜ Lent (now state) × SoundIn (now state) × (strand < 4) × (side < 2) ⌝ }
     ensures { λ r. ⌜ Did (now (state .exit)) r
         (act (stateIn (now (state .entry))) (command.Insert strand side flags word)) ⌝ }
 {
     let new = operands::entry_for(state, strand, side, flags, word);
     let placed = state::insert_side(state, side, new);
     placed_to_answer(placed)
+}
+
+// An insertion from number 11 on: what a command's comes to once 5, 6 and 8 passed, and a served miss's.
+pub fn insert(state: &mut [u64], strand: u8, side: u8, flags: u8, word: u64) -> Answer
+    requires { ⌜ Lent (now state) × SoundIn (now state) × (strand < 4) × (side < 2) ⌝ }
+    ensures { λ r. ⌜ Did (now (state .exit)) r
+        (insertStep (stateIn (now (state .entry))) strand side flags word) ⌝ }
+{
+    match questions::ask_insertion(state, strand, side, flags, word) {
+        Verdict::Passed => act_insert(state, strand, side, flags, word),
+        Verdict::Refused(refusal) => Answer::Refused(refusal),
+    }
 }
 
 // A demap answers how many entries it removed.

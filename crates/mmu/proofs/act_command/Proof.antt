@@ -7,6 +7,12 @@ use Rattle.machine.proofs.State.{encode-state}
 use Rattle.mmu.proofs.act_command.Statement.{statement}
 use Rattle.mmu.proofs.act_command.Tie as tie
 
+act-insert-requires : tie.Need-act-insert-requires
+act-insert-requires c κs =
+    let at = c .before .before in
+    let ready = rw (at .command2 .given .1) at (at .before .before .before .pre) in
+    (ready .lent, ready .sound, ready .fit .0, ready .fit .1)
+
 returns-8 : tie.Need-returns-8
 unfolding act
 returns-8 c =
@@ -28,7 +34,7 @@ act-command-spec =
     (λ c. search needs)
     (λ c κs. let at = c .before .before in rw (at .command .given .1) at (at .before .before .before .pre))
     (λ c. search needs)
-    (λ c κs. let at = c .before .before in rw (at .command2 .given .1) at (at .before .before .before .pre))
+    act-insert-requires
     (λ c. search needs)
     (λ c κs. let at = c .before .before in rw (at .command3 .given .1) at (at .before .before .before .pre))
     (λ c. search needs)

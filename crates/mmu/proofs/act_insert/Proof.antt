@@ -13,7 +13,7 @@ placed-to-answer-requires c κs =
     let entry = c .before .before .before .before in
     let start = entry .before .before .before in
     let u = stateIn (start .args .state .now) in
-    rw (c .before .before .insert-side .ensures .1) (place-fits _ _ (sound-side counts u (start .pre .sound) (start .args .side) .1))
+    rw (c .before .before .insert-side .ensures .1) (place-fits _ _ (sound-side counts u (start .pre .1) (start .args .side) .1))
 
 returns : tie.Need-returns
 unfolding act
