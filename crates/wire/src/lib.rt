@@ -32,7 +32,7 @@ fn four_bytes(s: &[u8], at: usize) -> u64
     front + wide(s[at + 2]) * 0x100 + wide(s[at + 3])
 }
 
-fn eight_bytes(s: &[u8], at: usize) -> u64
+pub fn eight_bytes(s: &[u8], at: usize) -> u64
     requires { ⌜ at + 8 ≤ length (now s) ⌝ }
     ensures { λ r. ⌜ r ≡ eight (now (s .entry)) at ⌝ }
 {
@@ -261,6 +261,11 @@ fn words_of(answer: Answer) -> AnswerWords
             first: 0,
             second: 0,
         },
+        Answer::NotInTable => AnswerWords {
+            head: head_word(6, 0, 0, 0),
+            first: 0,
+            second: 0,
+        },
     }
 }
 
@@ -313,4 +318,13 @@ pub fn put_answer(output: &mut [u8], at: usize, answer: Answer)
     put_eight(output, at, words.head);
     put_eight(output, at + 8, words.first);
     put_eight(output, at + 16, words.second);
+}
+
+// The 24 bytes of an answer, by value.
+pub fn answer_bytes(answer: Answer) -> [u8; machine::ANSWER_BYTES]
+    ensures { λ r. ⌜ r ≡ answerBytes answer ⌝ }
+{
+    let mut output = [0u8; machine::ANSWER_BYTES];
+    put_answer(&mut output, 0, answer);
+    output
 }

@@ -22,6 +22,9 @@ returns-5 c = rw (c .before .before .before .answer5 .given .1, c .head-word4 .e
 returns-6 : tie.Need-returns-6
 returns-6 c = rw (c .before .before .before .answer6 .given .1, c .head-word5 .ensures, c .before .refusal-number .ensures)
 
+returns-7 : tie.Need-returns-7
+returns-7 c = rw (c .before .enum-told .given .1, c .head-word6 .ensures)
+
 pub words-of-spec : {M : Type 1} → statement M
 words-of-spec =
     tie.close
@@ -40,9 +43,12 @@ words-of-spec =
     (λ c. search needs)
     (λ c κs. search needs)
     (λ c κs. search needs)
+    (λ c. search needs)
+    (λ c κs. search needs)
     returns
     returns-2
     returns-3
     returns-4
     returns-5
-    returns-6)
+    returns-6
+    returns-7)
