@@ -8,11 +8,14 @@
  *     t1mmu_reset(state, T1MMU_STATE_WORDS);
  *     struct t1mmu_report r = t1mmu_run(state, T1MMU_STATE_WORDS, commands, length, answers, room);
  *
+ * Above it stands a miss handler, t1mmu_hand_back and t1mmu_serve, over the guest's TSBs, which the caller lends too.
+ *
  * Every call is proved equal to a definition in crates/machine/specs, in its result, in every word of the state and in every byte of
  * the answers, for every value and every length that it may be given; and again to second texts of it, in no word of the first: a plain
- * ledger of entries with numbered places tells all that t1mmu_run leaves and returns. The proof speaks of the ranges that a pointer and its length name:
+ * ledger of entries with numbered places tells all that t1mmu_run and t1mmu_serve leave and return. The proof speaks of the ranges that a
+ * pointer and its length name:
  *   - each range is the caller's to read, and state and output to write, for the whole of the call;
- *   - state, input and output do not overlap; state is aligned as uint64_t is;
+ *   - state, input and output do not overlap, nor does state with a table; state is aligned as uint64_t is;
  *   - with length 0 the pointer is not used, and may be null.
  * Nothing else is asked. No call allocates, keeps a pointer, has hidden state, or does input or output: calls on different states may run
  * in different threads at the same time.
@@ -32,7 +35,7 @@ extern "C" {
 
 /* ---- sizes ---- */
 
-#define T1MMU_VERSION 0x010001u /* 1.0.1: major * 65536 + minor * 256 + patch */
+#define T1MMU_VERSION 0x010100u /* 1.1.0: major * 65536 + minor * 256 + patch */
 #define T1MMU_STATE_WORDS 640   /* the strands' register cells, then the slots of side 0, then those of side 1 */
 #define T1MMU_ANSWER_BYTES 24
 #define T1MMU_STRANDS 4
@@ -41,10 +44,14 @@ extern "C" {
 #define T1MMU_REGISTERS 26 /* register numbers are below it */
 #define T1MMU_CELLS 32     /* of a strand: a word for each register number, zero where there is no such register */
 #define T1MMU_SLOT_WORDS 4 /* of a slot: owner, page, entry word, flags */
+#define T1MMU_TSB_ENTRY_BYTES 16 /* of a TSB entry: its tag, then its word, both big-endian */
 
 /* Where in a state a strand's register stands, and where the words of a slot begin. */
 #define T1MMU_CELL_AT(strand, number) (T1MMU_CELLS * (strand) + (number))
 #define T1MMU_SLOT_AT(side, slot) (T1MMU_CELL_AT(T1MMU_STRANDS, 0) + T1MMU_SLOT_WORDS * (T1MMU_SLOTS * (side) + (slot)))
+
+/* The bytes of a TSB whose base register has N, 0 to 15. */
+#define T1MMU_TSB_BYTES(n) ((size_t)T1MMU_TSB_ENTRY_BYTES << (9 + (n)))
 
 /* ---- commands: the first byte; then the operands, one byte each unless marked 8, which is big-endian ---- */
 
@@ -121,7 +128,8 @@ enum t1mmu_answer {
     T1MMU_TRAP = 2,      /* a: enum t1mmu_trap; b: fault type; first value: the address as it was used; second: tag access as the trap left it */
     T1MMU_VALUE = 3,     /* first value: the register; or both values: the pointers of ps0 and ps1 */
     T1MMU_DISPLACED = 4, /* b: its partition; c: 1 if it is real; first value: its page and context, as in tag access; second: its word */
-    T1MMU_REFUSED = 5    /* a: enum t1mmu_refusal; the command changed nothing */
+    T1MMU_REFUSED = 5,   /* a: enum t1mmu_refusal; the command changed nothing */
+    T1MMU_NOT_IN_TABLE = 6 /* of t1mmu_serve alone: the TSB entry does not fit; nothing changed */
 };
 
 enum t1mmu_attribute { T1MMU_CP = 1, T1MMU_E = 2, T1MMU_IE = 4 };
@@ -147,8 +155,12 @@ enum t1mmu_fault {
     T1MMU_FAULT_OUT_OF_RANGE = 0x20    /* an address from 2^47 to 2^64 - 2^47 - 1 */
 };
 
-/* Why a command that was taken did not act. The lowest number that fails is answered. */
+/*
+ * Why a command that was taken, or a call of the miss handler, did not act. The first that fails is answered, in the order of the numbers;
+ * but the miss handler asks T1MMU_REFUSED_TABLE before T1MMU_REFUSED_ADDRESS. STATE and TABLE are of its two calls alone.
+ */
 enum t1mmu_refusal {
+    T1MMU_REFUSED_STATE = 1, /* the state is not sound, a wrong length included: what a run stops with */
     T1MMU_REFUSED_STRAND = 5,
     T1MMU_REFUSED_SIDE = 6, /* or the kind of an access */
     T1MMU_REFUSED_SELECTOR = 7,
@@ -157,7 +169,8 @@ enum t1mmu_refusal {
     T1MMU_REFUSED_VALUE = 10,
     T1MMU_REFUSED_ADDRESS = 11,
     T1MMU_REFUSED_WORD = 12,
-    T1MMU_REFUSED_NO_SLOT = 13
+    T1MMU_REFUSED_NO_SLOT = 13,
+    T1MMU_REFUSED_TABLE = 14 /* the TSB that is used has not T1MMU_TSB_BYTES(N) bytes */
 };
 
 /* Why a run ended. */
@@ -176,6 +189,19 @@ struct t1mmu_report {
     size_t answered; /* commands taken, each with its answer */
     size_t taken;    /* bytes of the input that they had */
     uint8_t stop;    /* enum t1mmu_stop */
+};
+
+/* What t1mmu_hand_back returns: which part of which table. On a number other than 0 the part is empty, and the rest is 0. */
+struct t1mmu_part {
+    uint8_t number; /* 0, or T1MMU_REFUSED_STATE, _STRAND, _SIDE or _TABLE */
+    uint8_t other;  /* 0: a part of the table for context zero; 1: of the other table */
+    size_t start;   /* where in that table */
+    size_t length;  /* T1MMU_TSB_ENTRY_BYTES, or 0 */
+};
+
+/* What t1mmu_serve returns: the bytes of an answer, as a run writes them. */
+struct t1mmu_answered {
+    uint8_t bytes[T1MMU_ANSWER_BYTES];
 };
 
 /* The fields of an entry word (a sun4v TTE), from bit 63 down. address is bits 55:13 of the word: shift it left by 13 for bytes. */
@@ -216,6 +242,41 @@ uint8_t t1mmu_reset(uint64_t *state, size_t words);
  * Whether the state is sound is asked once a run, at the cost of some two dozen hits: give a run many commands where you can.
  */
 struct t1mmu_report t1mmu_run(uint64_t *state, size_t words, const uint8_t *input, size_t length, uint8_t *output, size_t room);
+
+/*
+ * The miss handler: two calls above the unit, which look for the page of a strand's tag access in the guest's TSBs. The caller lends two
+ * tables, one for context zero and one for all other contexts; the context in tag access of the side picks the table, and with it the
+ * base register (for N) and the configuration register (for the page size of ps0). The table used has T1MMU_TSB_BYTES(N) bytes, else both
+ * calls are refused with T1MMU_REFUSED_TABLE; the other one may have any length. The entry stands at byte
+ * 16 * ((address / page size) mod 2^(9 + N)) of its table: at the ps0 pointer of command 0x09, less the table's address, which plays no part.
+ * Tables are only read; they may be the same range, or overlap. A table of length 0 may be null.
+ *
+ * Either call asks whether the state is sound, at the cost of some two dozen hits and far above that of all else in it.
+ */
+
+/*
+ * Which 16 bytes the miss handler looks at, whatever stands in them; the state is only read. Refused: 1, 5, 6, 14, in this order.
+ * (specs: partOf)
+ */
+struct t1mmu_part t1mmu_hand_back(const uint64_t *state, size_t words, uint8_t strand, uint8_t side, const uint8_t *zero, size_t zero_length,
+                                  const uint8_t *other, size_t other_length);
+
+/*
+ * Serves the miss that tag access is about. The 16 bytes fit when their tag has the context in bits 60:48, bits 63:22 of the address in bits
+ * 41:0 (with ps0 of 256 MB only bits 63:28 are compared, and the tag's bits 5:0 are free) and zeros elsewhere, and their word has v 1 and in
+ * all four bits the size code of ps0. A word that fits is inserted as by command 0x02 with flags 0, virtual and unlocked, and the answer is that
+ * insertion's: T1MMU_DONE, T1MMU_DISPLACED, or T1MMU_REFUSED with 11, 12 or 13, which are asked on a fit alone. Bytes that do not fit are
+ * answered T1MMU_NOT_IN_TABLE. Refused before it looks at them: 1, 5, 6, 14, in this order, answered as T1MMU_REFUSED.
+ *
+ * Serving writes no register, is no lookup, and looks at no mode; but for an entry put in nothing changes outside the side's slots, and
+ * unless one is put in nothing changes at all. (specs: servedOf)
+ *
+ * What a caller does: an access is answered with trap 0x64 (side 0) or 0x68 (side 1); it serves the strand and side, and on T1MMU_DONE or
+ * T1MMU_DISPLACED sends the access again; on T1MMU_NOT_IN_TABLE it hands the trap to the guest. After a real miss (0x3E, 0x3F) tag access has
+ * context 0, and serving would put in a *virtual* entry of context 0, which a real access never finds: do not serve those.
+ */
+struct t1mmu_answered t1mmu_serve(uint64_t *state, size_t words, uint8_t strand, uint8_t side, const uint8_t *zero, size_t zero_length,
+                                  const uint8_t *other, size_t other_length);
 
 /* All fields of an entry word; t1mmu_pack of them is the word again. (specs: unpacked) */
 struct t1mmu_tte t1mmu_unpack(uint64_t word);

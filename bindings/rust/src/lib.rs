@@ -79,6 +79,41 @@ pub struct Report {
     pub stop: Stop,
 }
 
+/// Why no part of a table is handed back, in the order asked.
+#[derive(Clone, Copy, Debug, PartialEq, Eq)]
+pub enum NoPart {
+    /// The state is not sound.
+    State,
+    /// The strand is not 0 to 3.
+    Strand,
+    /// The side is not 0 or 1.
+    Side,
+    /// The table used has not [`numbers::tsb_bytes`] of its N.
+    Table,
+}
+
+impl NoPart {
+    /// The document's number, which [`Unit::serve`] answers with.
+    pub fn number(self) -> u8 {
+        match self {
+            NoPart::State => numbers::REFUSED_STATE,
+            NoPart::Strand => numbers::REFUSED_STRAND,
+            NoPart::Side => numbers::REFUSED_SIDE,
+            NoPart::Table => numbers::REFUSED_TABLE,
+        }
+    }
+
+    fn of(number: u8) -> NoPart {
+        match number {
+            numbers::REFUSED_STATE => NoPart::State,
+            numbers::REFUSED_STRAND => NoPart::Strand,
+            numbers::REFUSED_SIDE => NoPart::Side,
+            numbers::REFUSED_TABLE => NoPart::Table,
+            _ => unreachable!("the library proves its number to be one of these"),
+        }
+    }
+}
+
 /// The state of one core.
 #[derive(Clone, PartialEq, Eq)]
 pub struct Unit {
@@ -113,6 +148,33 @@ impl Unit {
             sys::t1mmu_run(self.words.as_mut_ptr(), self.words.len(), input.as_ptr(), input.len(), output.as_mut_ptr(), output.len())
         };
         Report { answered: report.answered, taken: report.taken, stop: Stop::of(report.stop) }
+    }
+
+    /// The 16 bytes of the guest's TSB where the ps0 pointer of tag access points: a part of `zero` where its context is zero, else of `other`.
+    /// The part lives as long as the tables, not as the borrow of the unit. What stands in it is not looked at.
+    pub fn hand_back<'a>(&self, strand: u8, side: u8, zero: &'a [u8], other: &'a [u8]) -> Result<&'a [u8], NoPart> {
+        let words = &self.words;
+        // SAFETY: three slices that are only read.
+        let part = unsafe {
+            sys::t1mmu_hand_back(words.as_ptr(), words.len(), strand, side, zero.as_ptr(), zero.len(), other.as_ptr(), other.len())
+        };
+        if part.number != 0 {
+            return Err(NoPart::of(part.number));
+        }
+        let table = if part.other == 0 { zero } else { other };
+        Ok(&table[part.start..part.start + part.length])
+    }
+
+    /// Serves the miss that tag access is about from the guest's TSBs. Where the 16 bytes that [`Unit::hand_back`] gives fit, their word is
+    /// inserted, virtual and unlocked, and the answer is that insertion's; else it is [`numbers::NOT_IN_TABLE`]. Where hand back
+    /// gives no part the answer is [`numbers::REFUSED`] with its number. Like hand back it asks for soundness at each call.
+    pub fn serve(&mut self, strand: u8, side: u8, zero: &[u8], other: &[u8]) -> [u8; ANSWER_BYTES] {
+        let words = &mut self.words;
+        // SAFETY: three slices; the state is ours alone, and the tables are only read.
+        let answered = unsafe {
+            sys::t1mmu_serve(words.as_mut_ptr(), words.len(), strand, side, zero.as_ptr(), zero.len(), other.as_ptr(), other.len())
+        };
+        answered.bytes
     }
 }
 

@@ -11,7 +11,7 @@ macro_rules! numbers {
 
 numbers! {
     /// The version that this crate is written for: major * 65536 + minor * 256 + patch.
-    VERSION: u32 = 0x01_00_01;
+    VERSION: u32 = 0x01_01_00;
     /// The words of a state.
     STATE_WORDS: usize = 640;
     /// The bytes of an answer.
@@ -26,6 +26,8 @@ numbers! {
     CELLS: usize = 32;
     /// The words of a slot in a state: owner, page, entry word, flags.
     SLOT_WORDS: usize = 4;
+    /// The bytes of a TSB entry: its tag, then its word.
+    TSB_ENTRY_BYTES: usize = 16;
 
     // Commands, by their first byte.
     WRITE: u8 = 0x01;
@@ -118,6 +120,8 @@ numbers! {
     VALUE: u8 = 3;
     DISPLACED: u8 = 4;
     REFUSED: u8 = 5;
+    /// Of [`crate::Unit::serve`] alone: the TSB entry does not fit.
+    NOT_IN_TABLE: u8 = 6;
 
     // Attributes of a physical answer, its second byte.
     CP: u8 = 1;
@@ -146,7 +150,9 @@ numbers! {
     /// Fault type: an address from 2^47 to 2^64 - 2^47 - 1.
     FAULT_OUT_OF_RANGE: u8 = 0x20;
 
-    // Why a command that was taken did not act.
+    // Why a command that was taken, or a call of the miss handler, did not act.
+    /// The state is not sound; of the miss handler's two calls alone.
+    REFUSED_STATE: u8 = 1;
     REFUSED_STRAND: u8 = 5;
     /// The side, or the kind of an access.
     REFUSED_SIDE: u8 = 6;
@@ -158,6 +164,8 @@ numbers! {
     REFUSED_ADDRESS: u8 = 11;
     REFUSED_WORD: u8 = 12;
     REFUSED_NO_SLOT: u8 = 13;
+    /// The TSB that is used has another length; of the miss handler's two calls alone.
+    REFUSED_TABLE: u8 = 14;
 
     // Why a run ended; [`crate::Stop`] has them as an enum.
     END: u8 = 0;
@@ -175,6 +183,11 @@ pub const fn tsb_base_of(side: u8, nonzero: bool, ps: u8) -> u8 {
 /// The TSB configuration register of a side; `nonzero` for the table of contexts that are not zero.
 pub const fn tsb_configuration_of(side: u8, nonzero: bool) -> u8 {
     TSB_CONFIGURATION + 2 * side + nonzero as u8
+}
+
+/// The bytes of a TSB whose base register has N, 0 to 15.
+pub const fn tsb_bytes(n: u32) -> usize {
+    TSB_ENTRY_BYTES << (9 + n)
 }
 
 /// Where in a state a strand's register stands.

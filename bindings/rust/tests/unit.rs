@@ -1,6 +1,6 @@
-//! The crate's own tests. What is expected is document 01's, not the library's.
-use t1mmu::numbers::{self, cell_at, slot_at, tsb_base_of, tsb_configuration_of};
-use t1mmu::{pack, state_words, unpack, version, Report, Stop, Tte, Unit, ANSWER_BYTES, STATE_WORDS, VERSION};
+//! The crate's own tests. What is expected is the documents', not the library's.
+use t1mmu::numbers::{self, cell_at, slot_at, tsb_base_of, tsb_bytes, tsb_configuration_of};
+use t1mmu::{pack, state_words, unpack, version, NoPart, Report, Stop, Tte, Unit, ANSWER_BYTES, STATE_WORDS, VERSION};
 
 /// Document 01's printed run.
 const PRINTED: &str = "0100040000000000000003010003000000000000000007000100030000000000402008\
@@ -103,6 +103,78 @@ fn every_stop() {
     assert_eq!(unsound.words(), &[u64::MAX; STATE_WORDS]);
     for (number, stop) in [Stop::End, Stop::Unsound, Stop::Unknown, Stop::Incomplete, Stop::NoRoom].into_iter().enumerate() {
         assert_eq!(usize::from(stop.number()), number);
+    }
+}
+
+/// The printed run up to its load of 0x402008 that misses: tag access is page 0x402000 with context 0, N 0 and ps0 8 KB as at reset.
+fn missed() -> Unit {
+    let mut unit = Unit::reset();
+    unit.run(&bytes(PRINTED)[..ENDS[3]], &mut [0; ROOM]);
+    unit
+}
+
+/// A table of N 0 with the TSB entry of that page: page 0x201 of 8 KB, so entry 1 of 512; bits 63:22 of the address are 1.
+fn table(word: u64) -> Vec<u8> {
+    let mut table = vec![0; tsb_bytes(0)];
+    table[16..24].copy_from_slice(&1u64.to_be_bytes());
+    table[24..32].copy_from_slice(&word.to_be_bytes());
+    table
+}
+
+#[test]
+fn a_part_is_of_the_table_and_outlives_the_unit() {
+    let (zero, other) = (table(WORD), vec![0xee; tsb_bytes(0)]);
+    let part = {
+        let unit = missed();
+        unit.hand_back(0, numbers::DATA, &zero, &other)
+    };
+    assert_eq!(part.map(<[u8]>::as_ptr_range), Ok(zero[16..32].as_ptr_range()));
+    let mut unit = missed();
+    unit.run(&bytes("0100150000000000402005"), &mut [0; ROOM]);
+    let part = unit.hand_back(0, numbers::DATA, &zero, &other);
+    assert_eq!(part.map(<[u8]>::as_ptr_range), Ok(other[16..32].as_ptr_range()), "context 5");
+}
+
+#[test]
+fn a_miss_served_and_the_load_again() {
+    let mut unit = missed();
+    assert_eq!(unit.serve(0, numbers::DATA, &table(WORD), &[]), [0; ANSWER_BYTES]);
+    let mut again = [0; ANSWER_BYTES];
+    assert_eq!(unit.run(&bytes(PRINTED)[ENDS[4]..], &mut again), report(1, numbers::ACCESS_BYTES, Stop::End));
+    assert_eq!(again[..], bytes(ANSWERS[4]));
+    let mut inserted = Unit::reset();
+    inserted.run(&bytes(PRINTED), &mut [0; ROOM]);
+    assert!(unit == inserted, "as after the insertion by command");
+}
+
+#[test]
+fn what_does_not_fit_is_not_in_the_table() {
+    let mut unit = missed();
+    for word in [0, WORD & !(1 << 63), WORD + 1, WORD + 8] {
+        let answer = unit.serve(0, numbers::DATA, &table(word), &[]);
+        assert_eq!(answer[0], numbers::NOT_IN_TABLE, "{word:#x}");
+        assert_eq!(answer[1..], [0; ANSWER_BYTES - 1], "{word:#x}");
+    }
+    assert!(unit == missed());
+}
+
+#[test]
+fn no_part_and_why() {
+    let (zero, refused) = (table(WORD), |number: u8| [&[numbers::REFUSED, number], &[0; ANSWER_BYTES - 2][..]].concat());
+    let unsound = Unit::from_words([u64::MAX; STATE_WORDS]);
+    let cases = [
+        (unsound, 9, 9, &zero[..1], NoPart::State, 1),
+        (missed(), 4, 2, &zero[..1], NoPart::Strand, 5),
+        (missed(), 3, 2, &zero[..1], NoPart::Side, 6),
+        (missed(), 0, 1, &zero[..zero.len() - 1], NoPart::Table, 14),
+        (missed(), 0, 1, &[], NoPart::Table, 14),
+    ];
+    for (mut unit, strand, side, used, why, number) in cases {
+        let before = unit.clone();
+        assert_eq!(why.number(), number);
+        assert_eq!(unit.hand_back(strand, side, used, &zero), Err(why));
+        assert_eq!(unit.serve(strand, side, used, &zero)[..], refused(number));
+        assert!(unit == before, "{why:?}");
     }
 }
 
