@@ -27,9 +27,53 @@ pub enum Broken {
     MaskInMode2,
     /// a dirty empty slot passes as sound
     DirtyEmptySlots,
+    /// the miss handler takes the table of the other contexts
+    ServeSwapped,
+    /// N of the ps1 table
+    ServePs1Base,
+    /// the size code of ps1
+    ServePs1Size,
+    /// a table that is too long will do
+    ServeLongTable,
+    /// the table that is not used has to have its length, too
+    ServeBothLengths,
+    /// the entry's place by 8 KB pages at every size code
+    ServeBy8K,
+    /// hand back gives a part only where the entry fits
+    HandBackFitOnly,
+    ServeAnyContext,
+    ServeAnyAddress,
+    /// tag bits 63:61 may be set
+    ServeTagAbove,
+    /// tag bits 47:42 may be set
+    ServeTagBetween,
+    /// an entry word with v 0 fits
+    ServeInvalid,
+    ServeAnySize,
+    /// three bits of the word's size are compared
+    ServeSizeBit3,
+    /// 256 MB pages are compared down to bit 22
+    ServeFine,
+    /// all pages are compared down to bit 28 only
+    ServeCoarse,
+    /// a word that number 12 refuses does not fit
+    ServeWordChecked,
+    /// 11 to 13 are asked of an entry that does not fit
+    ServeAskedFirst,
+    /// in place of number 13, done
+    ServeNever13,
+    ServeReal,
+    ServeLocked,
+    /// the new entry has no used bit
+    ServeUnused,
+    /// a serve clears fault status
+    ServeWrites,
+    /// in mode 2 nothing is in the table
+    ServeByMode,
+    ServeLittleEndian,
 }
 
-const NAMES: [(&str, Broken); 11] = [
+const NAMES: &[(&str, Broken)] = &[
     ("used-bit-on-miss", Broken::UsedBitOnMiss),
     ("displace-highest", Broken::DisplaceHighest),
     ("forget-locked", Broken::ForgetLocked),
@@ -41,6 +85,31 @@ const NAMES: [(&str, Broken); 11] = [
     ("refuse-despite-overlap", Broken::RefuseDespiteOverlap),
     ("mask-in-mode-2", Broken::MaskInMode2),
     ("dirty-empty-slots", Broken::DirtyEmptySlots),
+    ("serve-swapped", Broken::ServeSwapped),
+    ("serve-ps1-base", Broken::ServePs1Base),
+    ("serve-ps1-size", Broken::ServePs1Size),
+    ("serve-long-table", Broken::ServeLongTable),
+    ("serve-both-lengths", Broken::ServeBothLengths),
+    ("serve-by-8k", Broken::ServeBy8K),
+    ("hand-back-fit-only", Broken::HandBackFitOnly),
+    ("serve-any-context", Broken::ServeAnyContext),
+    ("serve-any-address", Broken::ServeAnyAddress),
+    ("serve-tag-above", Broken::ServeTagAbove),
+    ("serve-tag-between", Broken::ServeTagBetween),
+    ("serve-invalid", Broken::ServeInvalid),
+    ("serve-any-size", Broken::ServeAnySize),
+    ("serve-size-bit-3", Broken::ServeSizeBit3),
+    ("serve-fine", Broken::ServeFine),
+    ("serve-coarse", Broken::ServeCoarse),
+    ("serve-word-checked", Broken::ServeWordChecked),
+    ("serve-asked-first", Broken::ServeAskedFirst),
+    ("serve-never-13", Broken::ServeNever13),
+    ("serve-real", Broken::ServeReal),
+    ("serve-locked", Broken::ServeLocked),
+    ("serve-unused", Broken::ServeUnused),
+    ("serve-writes", Broken::ServeWrites),
+    ("serve-by-mode", Broken::ServeByMode),
+    ("serve-little-endian", Broken::ServeLittleEndian),
 ];
 
 static CHOSEN: AtomicU8 = AtomicU8::new(Broken::Nothing as u8);

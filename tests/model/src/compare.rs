@@ -1,28 +1,46 @@
-//! One stream through the model, the ledger and the library: every state word, every output byte and the report.
+//! One stream through the model, the ledger and the library: every state word, every output byte, the report, every part handed back.
 use crate::command::{decode, disassembly, width};
 use crate::coverage::Coverage;
 use crate::generate::{Run, Scene};
 use crate::ledger::Ledger;
 use crate::library;
-use crate::model::{self, Model, Report};
+use crate::model::{self, Model, Part, Report};
 use crate::random::Random;
 use crate::states::{self, Start};
+use crate::tables::Miss;
 use t1mmu::numbers::{cell_at, slot_at, ANSWER_BYTES, CELLS, SIDES, SLOTS, SLOT_WORDS, STATE_WORDS, STRANDS};
 use t1mmu::{pack, unpack, Tte};
 
 const GUARD: usize = 64;
 
+/// What a caller does next.
+pub enum Step {
+    Run(Run),
+    /// hand back, then serve
+    Serve(Miss),
+}
+
 pub struct Stream {
     pub seed: u64,
     pub start: Start,
     pub words: Vec<u64>,
-    pub runs: Vec<Run>,
+    pub steps: Vec<Step>,
+}
+
+impl Stream {
+    pub fn runs(&self) -> impl Iterator<Item = &Run> {
+        self.steps.iter().filter_map(|step| match step {
+            Step::Run(run) => Some(run),
+            Step::Serve(_) => None,
+        })
+    }
 }
 
 #[derive(Default)]
 pub struct Counts {
     pub streams: u64,
     pub runs: u64,
+    pub serves: u64,
     pub commands: u64,
     pub states: u64,
     /// answers that the ledger gave beforehand
@@ -56,8 +74,16 @@ pub fn stream(seed: u64) -> Stream {
     let words = states::words(&mut r, &scene, start);
     let runs = 1 + r.below(4);
     let each = r.pick(&[3, 20, 60, 200]);
-    let runs = (0..runs).map(|i| scene.run(&mut r, i == 0 && start == Start::Reset, each)).collect();
-    Stream { seed, start, words, runs }
+    let misses = r.pick(&[0, 0, 1, 2, 4]);
+    let mut steps = Vec::new();
+    for i in 0..runs {
+        steps.push(Step::Run(scene.run(&mut r, i == 0 && start == Start::Reset, each)));
+        for _ in 0..misses {
+            let (before, miss, after) = scene.miss(&mut r);
+            steps.extend([Step::Run(before), Step::Serve(miss), Step::Run(after)]);
+        }
+    }
+    Stream { seed, start, words, steps }
 }
 
 /// Memory with guard cells on both sides, all filled with a pattern.
@@ -117,10 +143,7 @@ fn compare_run(words: &mut Vec<u64>, run: &Run, r: &mut Random, coverage: &mut C
     }
     first_difference("output byte", &out_ours.cells, &out_theirs.cells)
         .map_err(|e| format!("{e} (answers have {ANSWER_BYTES} bytes each)"))?;
-    if let Some(i) = ours.cells.iter().zip(&theirs.cells).position(|(m, l)| m != l) {
-        let at = i as isize - GUARD as isize;
-        return Err(format!("state word {at} ({}): model {:#x}, library {:#x}", place(at), ours.cells[i], theirs.cells[i]));
-    }
+    state_difference(&ours, &theirs)?;
     if input != run.input {
         return Err("the input was written".to_string());
     }
@@ -128,6 +151,59 @@ fn compare_run(words: &mut Vec<u64>, run: &Run, r: &mut Random, coverage: &mut C
     coverage.stop(report.stop);
     coverage.events(&events);
     Ok((report, out_theirs.inner()[..ANSWER_BYTES * report.answered].to_vec()))
+}
+
+fn state_difference(ours: &Guarded<u64>, theirs: &Guarded<u64>) -> Result<(), String> {
+    match ours.cells.iter().zip(&theirs.cells).position(|(m, l)| m != l) {
+        None => Ok(()),
+        Some(i) => {
+            let at = i as isize - GUARD as isize;
+            Err(format!("state word {at} ({}): model {:#x}, library {:#x}", place(at), ours.cells[i], theirs.cells[i]))
+        }
+    }
+}
+
+/// Hand back, which has to leave all as it is, then the serve; what the library gave.
+fn compare_serve(words: &mut Vec<u64>, miss: &Miss, tables: [&[u8]; 2], r: &mut Random, coverage: &mut Coverage) -> Result<(Part, Vec<u8>), String> {
+    let mut ours = Guarded::new(words.len(), || r.next());
+    ours.inner().copy_from_slice(words);
+    let mut theirs = Guarded { cells: ours.cells.clone(), length: ours.length };
+    let part = model::hand_back(ours.inner(), miss.strand, miss.side, tables);
+    let got = library::hand_back(theirs.inner(), miss.strand, miss.side, tables);
+    if part != got {
+        return Err(format!("part: model {part:?}, library {got:?}"));
+    }
+    state_difference(&ours, &theirs).map_err(|e| format!("hand back: {e}"))?;
+    let (answer, events) = model::serve(ours.inner(), miss.strand, miss.side, tables);
+    let answered = library::serve(theirs.inner(), miss.strand, miss.side, tables);
+    if answer != answered {
+        return Err(format!("answer: model {answer:02x?}, library {answered:02x?}"));
+    }
+    state_difference(&ours, &theirs)?;
+    if tables != [&miss.zero.bytes()[..], &miss.other.bytes()[..]] {
+        return Err("a table was written".to_string());
+    }
+    words.copy_from_slice(theirs.inner());
+    coverage.served(part.number, &answer, &events);
+    Ok((part, answered.to_vec()))
+}
+
+/// The ledger's part and answer, against the library's bytes.
+fn compare_ledger_serve(ledger: &mut Ledger, miss: &Miss, tables: [&[u8]; 2], part: Part, answer: &[u8]) -> Result<(), String> {
+    let [zero, other] = tables;
+    let given = ledger.hands_back(miss.strand, miss.side, zero, other);
+    let got = match part.number {
+        0 => Ok(&tables[part.other as usize][part.start..part.start + part.length]),
+        number => Err(number),
+    };
+    if given != got {
+        return Err(format!("part: ledger {given:02x?}, library {got:02x?}"));
+    }
+    let given = ledger.serves(miss.strand, miss.side, zero, other, answer);
+    if given.as_ref().map(|b| &b[..]) != Some(answer) {
+        return Err(format!("answer: ledger {given:02x?}, library {answer:02x?}"));
+    }
+    Ok(())
 }
 
 /// The ledger's answers to the commands that a run took, against the library's bytes.
@@ -165,21 +241,52 @@ pub fn compare(stream: &Stream, coverage: &mut Coverage, counts: &mut Counts) ->
     compare_reset(words.len(), &mut r)?;
     coverage.start(stream.start, Model::from_words(&words).is_some());
     counts.streams += 1;
-    for (i, run) in stream.runs.iter().enumerate() {
-        let (report, answers) = compare_run(&mut words, run, &mut r, coverage).map_err(|e| format!("run {i}: {e}"))?;
-        counts.runs += 1;
+    for (i, step) in stream.steps.iter().enumerate() {
+        match step {
+            Step::Run(run) => all_of_run(&mut words, run, &mut ledger, &mut r, coverage, counts).map_err(|e| format!("step {i}, a run: {e}"))?,
+            Step::Serve(miss) => all_of_serve(&mut words, miss, &mut ledger, &mut r, coverage, counts).map_err(|e| format!("step {i}, a serve: {e}"))?,
+        }
         counts.states += 1;
-        counts.commands += report.answered as u64;
-        let mut at = 0;
-        for answer in answers.chunks(ANSWER_BYTES) {
-            coverage.answer(run.input[at], answer);
-            at += width(run.input[at]).expect("taken, so known");
-        }
-        if let Some(ledger) = &mut ledger {
-            compare_ledger(ledger, run, &answers, counts).map_err(|e| format!("run {i}: {e}"))?;
-        }
     }
     Ok(())
+}
+
+type MaybeLedger = Option<Ledger>;
+
+fn all_of_run(
+    words: &mut Vec<u64>,
+    run: &Run,
+    ledger: &mut MaybeLedger,
+    r: &mut Random,
+    coverage: &mut Coverage,
+    counts: &mut Counts,
+) -> Result<(), String> {
+    let (report, answers) = compare_run(words, run, r, coverage)?;
+    counts.runs += 1;
+    counts.commands += report.answered as u64;
+    let mut at = 0;
+    for answer in answers.chunks(ANSWER_BYTES) {
+        coverage.answer(run.input[at], answer);
+        at += width(run.input[at]).expect("taken, so known");
+    }
+    ledger.as_mut().map_or(Ok(()), |ledger| compare_ledger(ledger, run, &answers, counts))
+}
+
+fn all_of_serve(
+    words: &mut Vec<u64>,
+    miss: &Miss,
+    ledger: &mut MaybeLedger,
+    r: &mut Random,
+    coverage: &mut Coverage,
+    counts: &mut Counts,
+) -> Result<(), String> {
+    let lent = [miss.zero.bytes(), miss.other.bytes()];
+    let tables = [&lent[0][..], &lent[1][..]];
+    let (part, answer) = compare_serve(words, miss, tables, r, coverage)?;
+    counts.serves += 1;
+    let Some(ledger) = ledger else { return Ok(()) };
+    counts.predicted += 1;
+    compare_ledger_serve(ledger, miss, tables, part, &answer)
 }
 
 /// High and low bit of each field of an entry word, in the order of `Tte`.
@@ -216,41 +323,47 @@ pub fn compare_words(n: u64, seed: u64) -> Result<u64, String> {
 /// A failing stream with as few commands as cutting one after the other leaves; the difference may become another one.
 pub fn shrink(stream: &mut Stream) {
     let differs = |s: &Stream| compare(s, &mut Coverage::default(), &mut Counts::default()).is_err();
-    let mut i = stream.runs.len();
+    let mut i = stream.steps.len();
     while i > 0 {
         i -= 1;
-        let run = stream.runs.remove(i);
+        let step = stream.steps.remove(i);
         if !differs(stream) {
-            stream.runs.insert(i, run);
+            stream.steps.insert(i, step);
         }
     }
-    for i in 0..stream.runs.len() {
+    for i in 0..stream.steps.len() {
         shrink_run(stream, i, &differs);
     }
 }
 
 fn shrink_run(stream: &mut Stream, i: usize, differs: &dyn Fn(&Stream) -> bool) {
+    let Step::Run(Run { input, room }) = &stream.steps[i] else { return };
+    let (mut whole, room) = (input.clone(), *room);
     let mut starts = Vec::new();
     let mut at = 0;
-    while let Some(w) = stream.runs[i].input.get(at).and_then(|&b| width(b)) {
+    while let Some(w) = whole.get(at).and_then(|&b| width(b)) {
         starts.push((at, w));
         at += w;
     }
     for &(at, w) in starts.iter().rev() {
-        let whole = stream.runs[i].input.clone();
         let end = (at + w).min(whole.len());
-        stream.runs[i].input = [&whole[..at], &whole[end..]].concat();
-        if !differs(stream) {
-            stream.runs[i].input = whole;
+        let cut = [&whole[..at], &whole[end..]].concat();
+        stream.steps[i] = Step::Run(Run { input: cut.clone(), room });
+        if differs(stream) {
+            whole = cut;
         }
     }
+    stream.steps[i] = Step::Run(Run { input: whole, room });
 }
 
 /// The failing case for a reader.
 pub fn told(stream: &Stream, error: &str) -> String {
     let mut text = format!("seed {:#x}, start {:?}: {error}\n", stream.seed, stream.start);
-    for (i, run) in stream.runs.iter().enumerate() {
-        text += &format!(" run {i}, room {}\n{}", run.room, disassembly(&run.input));
+    for (i, step) in stream.steps.iter().enumerate() {
+        text += &match step {
+            Step::Run(run) => format!(" step {i}, a run, room {}\n{}", run.room, disassembly(&run.input)),
+            Step::Serve(miss) => format!(" step {i}, a serve\n{}", miss.told()),
+        };
     }
     text
 }

@@ -1,5 +1,6 @@
-//! How often each answer, refusal, trap, stop, start state and way of an insertion occurred; a comparison that never met one of them shows little.
-use crate::model::{Choice, Event, CHOICES};
+//! How often each answer, refusal, trap, stop, start state, way of an insertion and outcome of a serve occurred; a comparison that never met
+//! one of them shows little.
+use crate::model::{Choice, Entry, Event, Misfit, CHOICES, MISFITS};
 use crate::states::{Start, STARTS};
 
 pub struct Coverage {
@@ -17,7 +18,31 @@ pub struct Coverage {
     found: [[u64; 6]; 2],
     /// by start: sound, not sound
     starts: [[u64; 2]; 10],
+    serves: Serves,
 }
+
+#[derive(Default)]
+struct Serves {
+    /// by number, 0 for a part
+    parts: [u64; 15],
+    /// by kind of answer
+    answers: [u64; 7],
+    refusals: [u64; 15],
+    /// table zero or the other looked at; by whether the table that was not looked at had a length of its own
+    tables: [[u64; 2]; 2],
+    misfits: [u64; MISFITS.len()],
+    /// by N and by size code
+    fits: [[u64; 6]; 2],
+    free_bits: u64,
+    overlaps: u64,
+    /// in this stream, and lookups that found one of them
+    entries: Vec<Entry>,
+    found: u64,
+}
+
+/// What hand back refuses by, and what serving refuses by beside it.
+const HANDED: [usize; 4] = [1, 5, 6, 14];
+const SERVED: [usize; 3] = [11, 12, 13];
 
 /// Which numbers a command can meet: 5 to 13 of "Questions before a command acts".
 const ASKED: [&[u8]; 10] = [&[], &[5, 9, 10], &[5, 6, 8, 11, 12, 13], &[5, 6, 7, 8, 11], &[5, 6, 7], &[5, 6], &[6], &[5, 6, 7, 8], &[5, 9], &[5, 6]];
@@ -61,7 +86,68 @@ impl Default for Coverage {
             choices: [0; 6],
             found: [[0; 6]; 2],
             starts: [[0; 2]; 10],
+            serves: Serves::default(),
         }
+    }
+}
+
+fn misfit_told(misfit: Misfit) -> &'static str {
+    match misfit {
+        Misfit::Context => "context",
+        Misfit::Address => "address",
+        Misfit::TagAbove => "tag bits 63:61",
+        Misfit::TagBetween => "tag bits 47:42",
+        Misfit::Invalid => "v 0",
+        Misfit::SizeCode => "size bits 2:0",
+        Misfit::SizeBit3 => "size bit 3",
+    }
+}
+
+impl Serves {
+    fn event(&mut self, event: &Event) {
+        match event {
+            Event::Inserted(choice) => {
+                let overlap = matches!(choice, Choice::EmptyAfterOverlap | Choice::EmptyAfterSeveralOverlaps | Choice::FullSideOverlap);
+                self.overlaps += overlap as u64;
+            }
+            Event::Looked { other, unused_right } => self.tables[*other as usize][*unused_right as usize] += 1,
+            Event::Misfit(misfit) => self.misfits[MISFITS.iter().position(|(m, _)| m == misfit).expect("a misfit")] += 1,
+            Event::Fits { n, code, free_bits } => {
+                if let Some(count) = self.fits[0].get_mut(*n as usize) {
+                    *count += 1;
+                }
+                self.fits[1][*code as usize] += 1;
+                self.free_bits += *free_bits as u64;
+            }
+            Event::Served(entry) => self.entries.push(*entry),
+            Event::Found(_) => {}
+        }
+    }
+
+    /// A lookup that found an entry of a serve; its used bit may have been cleared meanwhile.
+    fn found(&mut self, entry: &Entry) {
+        self.found += self.entries.iter().any(|e| Entry { used: entry.used, ..*e } == *entry) as u64;
+    }
+
+    fn items(&self, all: &mut Vec<(String, u64)>) {
+        all.push(("hand back: a part".to_string(), self.parts[0]));
+        HANDED.iter().for_each(|&n| all.push((format!("hand back refused {n}"), self.parts[n])));
+        HANDED.iter().chain(&SERVED).for_each(|&n| all.push((format!("serve refused {n}"), self.refusals[n])));
+        for (kind, name) in [(0, "done"), (4, "displaced"), (6, "not in table")] {
+            all.push((format!("serve: {name}"), self.answers[kind]));
+        }
+        for (other, name) in ["zero", "other"].iter().enumerate() {
+            all.push((format!("table {name} used, the unused one of another length"), self.tables[other][0]));
+            all.push((format!("table {name} used, the unused one of its length"), self.tables[other][1]));
+        }
+        for ((misfit, _), count) in MISFITS.iter().zip(self.misfits) {
+            all.push((format!("not in table by {} alone", misfit_told(*misfit)), count));
+        }
+        (0..=5).for_each(|n: usize| all.push((format!("fit with N {n}"), self.fits[0][n])));
+        [0, 1, 3, 5].iter().for_each(|&code: &usize| all.push((format!("fit with size code {code}"), self.fits[1][code])));
+        all.push(("fit with size code 5 and other tag bits 5:0".to_string(), self.free_bits));
+        all.push(("serve struck an overlapping entry".to_string(), self.overlaps));
+        all.push(("lookup found an entry of a serve".to_string(), self.found));
     }
 }
 
@@ -69,6 +155,7 @@ impl Coverage {
     pub fn start(&mut self, start: Start, sound: bool) {
         let at = STARTS.iter().position(|s| *s == start).expect("a start");
         self.starts[at][if sound { 0 } else { 1 }] += 1;
+        self.serves.entries.clear();
     }
 
     pub fn stop(&mut self, stop: u8) {
@@ -79,9 +166,23 @@ impl Coverage {
         for event in events {
             match event {
                 Event::Inserted(choice) => self.choices[CHOICES.iter().position(|c| c == choice).expect("a choice")] += 1,
-                Event::Found { code, real } => self.found[*real as usize][*code as usize] += 1,
+                Event::Found(entry) => {
+                    self.found[entry.real as usize][(entry.word & 15) as usize] += 1;
+                    self.serves.found(entry);
+                }
+                _ => unreachable!("of a serve"),
             }
         }
+    }
+
+    /// A hand back's number and a serve's answer, and what happened inside.
+    pub fn served(&mut self, number: u8, answer: &[u8], events: &[Event]) {
+        self.serves.parts[number as usize] += 1;
+        self.serves.answers[answer[0] as usize] += 1;
+        if answer[0] == 5 {
+            self.serves.refusals[answer[1] as usize] += 1;
+        }
+        events.iter().for_each(|event| self.serves.event(event));
     }
 
     pub fn answer(&mut self, code: u8, bytes: &[u8]) {
@@ -129,6 +230,7 @@ impl Coverage {
         for (real, name) in ["virtual", "real"].iter().enumerate() {
             [0, 1, 3, 5].iter().for_each(|&code: &usize| all.push((format!("found {name}, size code {code}"), self.found[real][code])));
         }
+        self.serves.items(&mut all);
         self.start_items(&mut all);
         all
     }

@@ -1,9 +1,10 @@
-//! Random command streams, dense in hard cases.
+//! Random command streams and misses, dense in hard cases.
 use crate::command::{encode, Command};
 use crate::random::Random;
+use crate::tables::{Miss, Table, Tte};
 use t1mmu::numbers::{ADDRESS_MASK, MODE, PARTITION, PRIMARY_CONTEXT, SECONDARY_CONTEXT, TRANSLATION};
 use t1mmu::numbers::{ANSWER_BYTES, REGISTERS, SIDES, STRANDS};
-use t1mmu::numbers::{FAULT_ADDRESS, LOCKED, TAG_ACCESS, TSB_BASE, TSB_CONFIGURATION};
+use t1mmu::numbers::{tsb_base_of, tsb_bytes, tsb_configuration_of, FAULT_ADDRESS, LOCKED, TAG_ACCESS, TSB_BASE, TSB_CONFIGURATION};
 
 /// One run of a stream: its bytes and its room for answers.
 pub struct Run {
@@ -306,5 +307,129 @@ impl Scene {
             _ => {}
         }
         Run { input, room }
+    }
+}
+
+/// A miss as it is made: its strand and side, tag access, and the registers that this picks.
+struct Made {
+    strand: u8,
+    side: u8,
+    tag: u64,
+    n: u32,
+    code: u64,
+}
+
+impl Made {
+    fn kind(&self) -> u8 {
+        (self.side == 1) as u8
+    }
+
+    /// The TSB entry's place by the registers.
+    fn at(&self) -> usize {
+        let by = [13, 16, 0, 22, 0, 28][self.code as usize];
+        16 * ((self.tag >> by) as usize % (1 << (9 + self.n)))
+    }
+
+    fn right_tag(&self) -> u64 {
+        self.tag % 0x2000 << 48 | self.tag >> 22
+    }
+}
+
+/// Misses. Registers are written first, so that tables can be made in which the entry of tag access stands, or nearly.
+impl Scene {
+    /// What leads to a miss, the miss, and what follows it.
+    pub fn miss(&self, r: &mut Random) -> (Run, Miss, Run) {
+        let (strand, side) = (self.strand(r), self.a_side(r));
+        let by_access = r.percent(40);
+        let virtually = !by_access || r.percent(90);
+        let tag = if virtually { self.tag(r) } else { self.tag(r) & !0x1FFF };
+        let made = Made { strand, side, tag, n: r.pick(&[0, 0, 0, 0, 0, 1, 1, 2, 3, 4, 5]), code: r.pick(&self.codes) };
+        let mut commands = self.tsb_registers(r, &made);
+        match by_access {
+            true => self.missing_access(r, &made, virtually, &mut commands),
+            false => commands.push(Command::Write { strand, register: TAG_ACCESS + side % 2, value: tag }),
+        }
+        // now and then tag access is as it happens to be
+        if r.percent(4) {
+            commands.clear();
+        }
+        let mut after = Vec::new();
+        if r.percent(70) {
+            after.push(Command::Access { strand, kind: made.kind(), selector: 0, size: 2, address: (tag & !0x1FFF) + r.below(0x800) * 4 });
+        }
+        (0..r.below(4)).for_each(|_| self.add(r, &mut after));
+        let run = |commands: Vec<Command>| Run { room: ANSWER_BYTES * commands.len(), input: commands.into_iter().flat_map(encode).collect() };
+        (run(commands), self.tables(r, &made), run(after))
+    }
+
+    /// Base and configuration of the table used, mostly those of ps1 and now and then those of the other table.
+    fn tsb_registers(&self, r: &mut Random, made: &Made) -> Vec<Command> {
+        let (strand, side, nonzero) = (made.strand, made.side % 2, made.tag % 0x2000 != 0);
+        let write = |register, value| Command::Write { strand, register, value };
+        let base = |r: &mut Random, n: u32| r.next() & !0x1FFF | n as u64;
+        let mut all = vec![
+            write(tsb_base_of(side, nonzero, 0), base(r, made.n)),
+            write(tsb_configuration_of(side, nonzero), made.code + 256 * r.pick(&CODES)),
+        ];
+        for (register, percent) in [(tsb_base_of(side, nonzero, 1), 80), (tsb_base_of(side, !nonzero, 0), 40)] {
+            let n = r.below(4) as u32;
+            all.extend(r.percent(percent).then(|| write(register, base(r, n))));
+        }
+        all
+    }
+
+    /// An access of the page by the primary context, which leaves it in tag access unless it hits.
+    fn missing_access(&self, r: &mut Random, made: &Made, virtually: bool, all: &mut Vec<Command>) {
+        let context = if virtually { made.tag % 0x2000 } else { r.pick(&self.contexts) };
+        let values = [(MODE, r.below(2)), (TRANSLATION, if virtually { 3 } else { 0 }), (ADDRESS_MASK, 0), (PRIMARY_CONTEXT, context)];
+        all.extend(values.map(|(register, value)| Command::Write { strand: made.strand, register, value }));
+        let address = (made.tag & !0x1FFF) + r.below(0x800) * 4;
+        all.push(Command::Access { strand: made.strand, kind: made.kind(), selector: 0, size: 2, address });
+    }
+
+    /// Two tables: of the one used mostly the right length, with the entry that fits or with one field of it broken.
+    fn tables(&self, r: &mut Random, made: &Made) -> Miss {
+        let right = tsb_bytes(made.n);
+        let near = [0, 1, 16, right / 2, right - 16, right - 1, right + 1, right + 16, right * 2];
+        let length = if r.percent(90) { right } else { r.pick(&near) };
+        let used = self.table(r, made, length);
+        let n = r.below(4) as u32;
+        let length = r.pick(&[0, 0, 7, right, right - 1, tsb_bytes(n), tsb_bytes(n)]);
+        let unused = self.table(r, made, length);
+        let (zero, other) = if made.tag % 0x2000 == 0 { (used, unused) } else { (unused, used) };
+        Miss { strand: made.strand, side: made.side, zero, other }
+    }
+
+    fn table(&self, r: &mut Random, made: &Made, length: usize) -> Table {
+        // what fits at each other place tells of a wrong one
+        let everywhere = r.percent(60).then(|| Tte { tag: made.right_tag(), word: 1 << 63 | r.below(2) << 39 | 0x440 | made.code });
+        let entries = if r.percent(94) { vec![(made.at(), self.entry(r, made))] } else { Vec::new() };
+        Table { length, everywhere, entries }
+    }
+
+    fn entry(&self, r: &mut Random, made: &Made) -> Tte {
+        let mut tag = made.right_tag();
+        let mut word = self.word(r) & !15 | 1 << 63 | made.code;
+        if made.code == 5 && r.percent(50) {
+            tag ^= r.below(64);
+        }
+        if r.percent(5) {
+            word |= 1 << (40 + r.below(16));
+        }
+        match r.below(100) {
+            0..=5 => tag ^= 1 << (48 + r.below(13)),
+            6..=11 => tag ^= 1 << r.below(42),
+            12..=14 => tag ^= 1 << r.below(7),
+            15..=18 => tag ^= 1 << (61 + r.below(3)),
+            19..=24 => tag ^= 1 << (42 + r.below(6)),
+            25..=28 => word ^= 1 << 63,
+            29..=34 => word ^= 1 << r.below(3),
+            35..=38 => word ^= 8,
+            39 => (tag, word) = (word, tag),
+            40 => (tag, word) = (r.next(), r.next()),
+            41 => (tag, word) = (tag.swap_bytes(), word.swap_bytes()),
+            _ => {}
+        }
+        Tte { tag, word }
     }
 }

@@ -1,7 +1,7 @@
 //! The plain machine of demand 3: registers, and two lists of entries by age. It has no slots and no used bits, and it is
-//! written again from "The ledger", sharing nothing with the model but the decoded command and the counts of the machine.
+//! written again from "The ledger" and from document 02's U1, sharing nothing with the model but the decoded command and the counts of the machine.
 use crate::command::Command;
-use t1mmu::numbers::{ANSWER_BYTES, REGISTERS, SIDES, SLOTS, STRANDS};
+use t1mmu::numbers::{ANSWER_BYTES, REGISTERS, SIDES, SLOTS, STRANDS, TSB_ENTRY_BYTES};
 
 /// An answer as it is written.
 type Bytes = [u8; ANSWER_BYTES];
@@ -298,6 +298,58 @@ impl Ledger {
             (base >> low << low) + index * 16
         };
         bytes([3, 0, 0, 0], pointer(bases[0], sizes % 8), pointer(bases[1], sizes / 256))
+    }
+}
+
+/// The miss handler, from the tables lent and the ledger's own registers and lists.
+impl Ledger {
+    /// The bytes of the table that tag access leads to, or the number refused by.
+    pub fn hands_back<'a>(&self, strand: u8, side: u8, zero: &'a [u8], other: &'a [u8]) -> Result<&'a [u8], u8> {
+        let r = self.registers.get(strand as usize).ok_or(5)?;
+        if side as usize >= SIDES {
+            return Err(6);
+        }
+        let tag = r[20 + side as usize];
+        let (table, base, sizes) = match tag % 8192 {
+            0 => (zero, r[8 + 4 * side as usize], r[16 + 2 * side as usize]),
+            _ => (other, r[10 + 4 * side as usize], r[17 + 2 * side as usize]),
+        };
+        let entries = 1 << (9 + base % 16);
+        if table.len() != entries * TSB_ENTRY_BYTES {
+            return Err(14);
+        }
+        let page = tag >> shift(sizes % 8).expect("an allowed size");
+        Ok(table.chunks_exact(TSB_ENTRY_BYTES).nth(page as usize % entries).expect("an index below the count"))
+    }
+
+    /// The answer to a serve, fed what the unit's answer names as displaced; none as for a command.
+    pub fn serves(&mut self, strand: u8, side: u8, zero: &[u8], other: &[u8], of_the_unit: &[u8]) -> Option<Bytes> {
+        let part = match self.hands_back(strand, side, zero, other) {
+            Err(number) => return Some(bytes([5, number, 0, 0], 0, 0)),
+            Ok(part) => part,
+        };
+        let (tag, word) = (value(&part[..8]), value(&part[8..]));
+        let r = &self.registers[strand as usize];
+        let key = r[20 + side as usize];
+        let ps0 = r[16 + 2 * side as usize + if key % 8192 == 0 { 0 } else { 1 }] % 8;
+        if !(tag_agrees(tag, key, ps0) && word >= 1 << 63 && word % 16 == ps0) {
+            return Some(bytes([6, 0, 0, 0], 0, 0));
+        }
+        self.answer(Command::Insert { strand, side, flags: 0, word }, of_the_unit)
+    }
+}
+
+/// Less its context the tag is the number of the address's 4 MB, or within the address's 256 MB; what stands in no field makes it another.
+fn tag_agrees(tag: u64, key: u64, ps0: u64) -> bool {
+    let owner = key % 8192 << 48;
+    if tag < owner {
+        return false;
+    }
+    let rest = tag - owner;
+    if ps0 == 5 {
+        rest / 64 == key >> 28
+    } else {
+        rest == key >> 22
     }
 }
 

@@ -1,5 +1,5 @@
-//! A second model of the unit, written from document 01 and not from the proved code, with the plain
-//! ledger of demand 3 beside it and the streams and states on which all three are compared.
+//! A second model of the unit and its miss handler, written from the documents and not from the proved code, with the plain
+//! ledger of demand 3 beside it and the streams, tables and states on which all three are compared.
 pub mod broken;
 pub mod command;
 pub mod compare;
@@ -11,4 +11,5 @@ pub mod model;
 pub mod random;
 pub mod states;
 pub mod sweeps;
+pub mod tables;
 pub mod vectors;

@@ -1,9 +1,9 @@
-//! The unit as document 01 has it: plain structs, one scan for each question. Comments name the section that decides. Only the places of
-//! registers and slots in the lent words are the library's; what they mean is written here again.
+//! The unit as document 01 has it, with document 02's miss handler: plain structs, one scan for each question. Comments name the section
+//! that decides. Only the places of registers and slots in the lent words are the library's; what they mean is written here again.
 use crate::broken::{self, Broken};
 use crate::command::{decode, width, Command};
 use t1mmu::numbers::{cell_at, slot_at, ANSWER_BYTES, CELLS, REGISTERS, SIDES, SLOTS, SLOT_WORDS, STATE_WORDS, STRANDS};
-pub use t1mmu::sys::Report;
+pub use t1mmu::sys::{Part, Report};
 
 #[derive(Clone, Copy, Debug, PartialEq)]
 pub struct Entry {
@@ -28,9 +28,39 @@ pub struct Model {
 #[derive(Clone, Copy, Debug, PartialEq)]
 pub enum Event {
     Inserted(Choice),
-    /// a lookup found an entry of this size code and realness
-    Found { code: u64, real: bool },
+    /// a lookup found this entry
+    Found(Entry),
+    /// a table of the right length was looked at; whether the one not looked at has the length that its own N asks for
+    Looked { other: bool, unused_right: bool },
+    /// the TSB entry fails by this alone
+    Misfit(Misfit),
+    /// the TSB entry fits; whether its tag has bits that are not compared and differ from the address
+    Fits { n: u64, code: u64, free_bits: bool },
+    /// an entry that a serve put in
+    Served(Entry),
 }
+
+/// What a TSB entry can fail to fit by.
+#[derive(Clone, Copy, Debug, PartialEq, Eq)]
+pub enum Misfit {
+    Context,
+    Address,
+    TagAbove,
+    TagBetween,
+    Invalid,
+    SizeCode,
+    SizeBit3,
+}
+
+pub const MISFITS: [(Misfit, Broken); 7] = [
+    (Misfit::Context, Broken::ServeAnyContext),
+    (Misfit::Address, Broken::ServeAnyAddress),
+    (Misfit::TagAbove, Broken::ServeTagAbove),
+    (Misfit::TagBetween, Broken::ServeTagBetween),
+    (Misfit::Invalid, Broken::ServeInvalid),
+    (Misfit::SizeCode, Broken::ServeAnySize),
+    (Misfit::SizeBit3, Broken::ServeSizeBit3),
+];
 
 /// How an insertion came to its slot.
 #[derive(Clone, Copy, Debug, PartialEq, Eq, PartialOrd, Ord)]
@@ -60,6 +90,7 @@ pub enum Answer {
     Read { first: u64, second: u64 },
     Displaced { entry: Entry },
     Refused { number: u8 },
+    NotInTable,
 }
 
 // ---- addresses and entry words
@@ -444,7 +475,7 @@ impl Model {
         let entry = self.sides[a.side][slot].as_mut().expect("a live entry was found");
         entry.used = true;
         let word = entry.word;
-        self.events.push(Event::Found { code: word & 15, real: !translating });
+        self.events.push(Event::Found(*entry));
         let fault = fault_type(word, mode, a.kind);
         if fault != 0 {
             return self.trap(a, if fetch { 0x08 } else { 0x30 }, fault);
@@ -535,8 +566,7 @@ impl Model {
         let configuration = registers[16 + 2 * side + other];
         let pointer = |base: u64, code: u64| {
             let n = base & 15;
-            let index = (round_down(tag, 1 << 13) / page_size(code).expect("an allowed size")) % (1 << (9 + n));
-            round_down(base, 1 << (13 + n)) + 16 * index
+            round_down(base, 1 << (13 + n)) + tsb_offset(n, code, tag)
         };
         let base = 8 + 4 * side + 2 * other;
         Answer::Read {
@@ -544,6 +574,151 @@ impl Model {
             second: pointer(registers[base + 1], configuration >> 8 & 7),
         }
     }
+}
+
+/// Where in its table the entry of a tag access stands, in bytes.
+fn tsb_offset(n: u64, code: u64, tag: u64) -> u64 {
+    16 * (round_down(tag, 1 << 13) / page_size(code).expect("an allowed size") % (1 << (9 + n)))
+}
+
+// ---- the miss handler (document 02, U1)
+
+/// What the context of tag access picks: the table, its N and its ps0.
+struct Tsb {
+    tag: u64,
+    other: usize,
+    n: u64,
+    code: u64,
+}
+
+fn tsb_length(n: u64) -> usize {
+    16 << (9 + n)
+}
+
+impl Model {
+    fn base_n(&self, strand: u8, side: u8, other: usize) -> u64 {
+        let ps = broken::is(Broken::ServePs1Base) as usize;
+        self.registers[strand as usize][8 + 4 * side as usize + 2 * other + ps] & 15
+    }
+
+    fn tsb(&self, strand: u8, side: u8) -> Tsb {
+        let registers = &self.registers[strand as usize];
+        let tag = registers[20 + side as usize];
+        let other = if tag & 0x1FFF == 0 { 0 } else { 1 };
+        let configuration = registers[16 + 2 * side as usize + other];
+        let code = if broken::is(Broken::ServePs1Size) { configuration >> 8 & 7 } else { configuration & 7 };
+        Tsb { tag, other, n: self.base_n(strand, side, other), code }
+    }
+
+    /// 5, 6 and 14; else the part of the table used at the ps0 pointer.
+    pub fn hand_back(&self, strand: u8, side: u8, tables: [&[u8]; 2]) -> Part {
+        let refused = |number: u8| Part { number, ..Part::default() };
+        if let Some(number) = first_failing(&[(5, strand > 3), (6, side > 1)]) {
+            return refused(number);
+        }
+        let tsb = self.tsb(strand, side);
+        let used = if broken::is(Broken::ServeSwapped) { 1 - tsb.other } else { tsb.other };
+        let (length, wanted) = (tables[used].len(), tsb_length(tsb.n));
+        let unused_wrong = tables[1 - used].len() != tsb_length(self.base_n(strand, side, 1 - tsb.other));
+        if length < wanted || length > wanted && !broken::is(Broken::ServeLongTable) || broken::is(Broken::ServeBothLengths) && unused_wrong {
+            return refused(14);
+        }
+        let code = if broken::is(Broken::ServeBy8K) { 0 } else { tsb.code };
+        let start = tsb_offset(tsb.n, code, tsb.tag) as usize;
+        let part = Part { number: 0, other: used as u8, start, length: 16 };
+        if broken::is(Broken::HandBackFitOnly) && !self.misfits(&tsb, &tables[used][start..start + 16]).is_empty() {
+            return Part { start: 0, length: 0, ..part };
+        }
+        part
+    }
+
+    /// All that the 16 bytes fail by; none where they fit.
+    fn misfits(&self, tsb: &Tsb, entry: &[u8]) -> Vec<Misfit> {
+        let (tag, word) = (eight(&entry[..8]), eight(&entry[8..]));
+        let from = match tsb.code {
+            _ if broken::is(Broken::ServeFine) => 22,
+            5 => 28,
+            _ if broken::is(Broken::ServeCoarse) => 28,
+            _ => 22,
+        };
+        let fails = |misfit: Misfit| match misfit {
+            Misfit::Context => tag >> 48 & 0x1FFF != tsb.tag & 0x1FFF,
+            Misfit::Address => (tag & 0x3FF_FFFF_FFFF) >> (from - 22) != tsb.tag >> from,
+            Misfit::TagAbove => tag >> 61 != 0,
+            Misfit::TagBetween => tag >> 42 & 0x3F != 0,
+            Misfit::Invalid => !bit(word, 63),
+            Misfit::SizeCode => word & 7 != tsb.code,
+            Misfit::SizeBit3 => bit(word, 3),
+        };
+        let mut all: Vec<Misfit> = MISFITS.iter().filter(|(m, ignored)| fails(*m) && !broken::is(*ignored)).map(|(m, _)| *m).collect();
+        if broken::is(Broken::ServeWordChecked) && word >> 40 & 0xFFFF != 0 {
+            all.push(Misfit::Invalid);
+        }
+        all
+    }
+
+    /// Hand back's refusals; on a fit alone those of command 0x02 without flags, and its insertion.
+    pub fn serve(&mut self, strand: u8, side: u8, tables: [&[u8]; 2]) -> Answer {
+        let part = self.hand_back(strand, side, tables);
+        if part.number != 0 {
+            return Answer::Refused { number: part.number };
+        }
+        let tsb = self.tsb(strand, side);
+        let entry = &tables[part.other as usize][part.start..part.start + part.length];
+        let word = eight(&entry[8..]);
+        let unused_right = tables[1 - tsb.other].len() == tsb_length(self.base_n(strand, side, 1 - tsb.other));
+        self.events.push(Event::Looked { other: tsb.other == 1, unused_right });
+        let misfits = self.misfits(&tsb, entry);
+        let refusal = self.insertion_refusal(strand, side, 0, word);
+        let asked_first = refusal.filter(|_| broken::is(Broken::ServeAskedFirst));
+        if let Some(number) = asked_first {
+            return Answer::Refused { number };
+        }
+        if !misfits.is_empty() || broken::is(Broken::ServeByMode) && self.registers[strand as usize][3] == 2 {
+            self.events.extend((misfits.len() == 1).then(|| Event::Misfit(misfits[0])));
+            return Answer::NotInTable;
+        }
+        self.events.push(Event::Fits { n: tsb.n, code: tsb.code, free_bits: eight(&entry[..8]) & 0x3F != tsb.tag >> 22 & 0x3F });
+        match refusal {
+            Some(13) if broken::is(Broken::ServeNever13) => Answer::Done { count: 0 },
+            Some(number) => Answer::Refused { number },
+            None => self.serve_with(strand, side, word),
+        }
+    }
+
+    fn serve_with(&mut self, strand: u8, side: u8, word: u64) -> Answer {
+        let flags = broken::is(Broken::ServeReal) as u8 + 2 * broken::is(Broken::ServeLocked) as u8;
+        let mut new = self.new_entry(strand, side, flags, word);
+        new.used = !broken::is(Broken::ServeUnused);
+        if broken::is(Broken::ServeWrites) {
+            self.registers[strand as usize][24 + side as usize] = 0;
+        }
+        let answer = self.insert(side as usize, new);
+        self.events.push(Event::Served(new));
+        answer
+    }
+}
+
+fn eight(bytes: &[u8]) -> u64 {
+    if broken::is(Broken::ServeLittleEndian) {
+        return bytes.iter().rev().fold(0, |sum, &b| sum * 256 + b as u64);
+    }
+    bytes.iter().fold(0, |sum, &b| sum * 256 + b as u64)
+}
+
+/// Hand back over the caller's words.
+pub fn hand_back(words: &[u64], strand: u8, side: u8, tables: [&[u8]; 2]) -> Part {
+    Model::from_words(words).map_or(Part { number: 1, ..Part::default() }, |model| model.hand_back(strand, side, tables))
+}
+
+/// A serve over the caller's words; what happened inside beside the answer.
+pub fn serve(words: &mut [u64], strand: u8, side: u8, tables: [&[u8]; 2]) -> ([u8; ANSWER_BYTES], Vec<Event>) {
+    let Some(mut model) = Model::from_words(words) else {
+        return (answer_bytes(&Answer::Refused { number: 1 }), Vec::new());
+    };
+    let answer = model.serve(strand, side, tables);
+    words.copy_from_slice(&model.to_words());
+    (answer_bytes(&answer), model.events)
 }
 
 // ---- a command, a run
@@ -630,6 +805,7 @@ pub fn answer_bytes(answer: &Answer) -> [u8; ANSWER_BYTES] {
         Answer::Read { first, second } => (3, 0, 0, 0, first, second),
         Answer::Displaced { entry: e } => (4, 0, e.partition as u8, e.real as u8, e.page + e.context, e.word),
         Answer::Refused { number } => (5, number, 0, 0, 0, 0),
+        Answer::NotInTable => (6, 0, 0, 0, 0, 0),
     };
     let mut bytes = [0; ANSWER_BYTES];
     bytes[..4].copy_from_slice(&[kind, a, b, c]);

@@ -1,10 +1,13 @@
 //! Cases taken one after the other instead of at random: every operand byte, every register with values at its bounds, every
-//! attribute of a word in every mode, every state that is one bit away from a full one, every pair of page sizes side by side.
+//! attribute of a word in every mode, every state that is one bit away from a full one, every pair of page sizes side by side, every TSB
+//! entry that is one bit away from one that fits.
 use crate::command::{encode, width, Command};
-use crate::compare::Stream;
+use crate::compare::{Step, Stream};
 use crate::generate::Run;
 use crate::model::{Entry, Model};
 use crate::states::Start;
+use crate::tables::{Miss, Table, Tte};
+use t1mmu::numbers::{tsb_base_of, tsb_bytes, tsb_configuration_of};
 use t1mmu::numbers::{ADDRESS_MASK, MODE, PRIMARY_CONTEXT, SECONDARY_CONTEXT, TAG_ACCESS, TRANSLATION};
 use t1mmu::numbers::{ANSWER_BYTES, SLOTS, STATE_WORDS};
 
@@ -13,12 +16,12 @@ const PAGE: u64 = 0x4000_0000;
 fn from_reset(seed: u64, commands: Vec<Command>) -> Stream {
     let room = ANSWER_BYTES * commands.len() + 7;
     let input = commands.into_iter().flat_map(encode).collect();
-    Stream { seed, start: Start::Reset, words: Model::reset().to_words(), runs: vec![Run { input, room }] }
+    Stream { seed, start: Start::Reset, words: Model::reset().to_words(), steps: vec![Step::Run(Run { input, room })] }
 }
 
 fn from_words(seed: u64, start: Start, words: Vec<u64>) -> Stream {
     let input = [Command::Read { strand: 0, register: MODE }, Command::DemapAll { strand: 0, side: 1 }].into_iter().flat_map(encode).collect();
-    Stream { seed, start, words, runs: vec![Run { input, room: 2 * ANSWER_BYTES + 12 }] }
+    Stream { seed, start, words, steps: vec![Step::Run(Run { input, room: 2 * ANSWER_BYTES + 12 })] }
 }
 
 /// Both sides full: all sizes, partitions and contexts, real and virtual, locked and not.
@@ -91,7 +94,7 @@ fn operands() -> Stream {
     }
     // No command has fewer than two bytes.
     let room = ANSWER_BYTES * input.len() / 2;
-    Stream { seed: 2, start: Start::Reset, words: Model::reset().to_words(), runs: vec![Run { input, room }] }
+    Stream { seed: 2, start: Start::Reset, words: Model::reset().to_words(), steps: vec![Step::Run(Run { input, room })] }
 }
 
 /// Every command code, alone and with operands, with and without room.
@@ -99,12 +102,12 @@ fn codes() -> Vec<Stream> {
     let run = |code: u8, length: usize, room: usize| {
         let mut input = vec![0; length];
         input[0] = code;
-        Run { input, room }
+        Step::Run(Run { input, room })
     };
     let longest = (0..=255).filter_map(width).max().expect("a known code");
     let rooms = [0, ANSWER_BYTES - 1, ANSWER_BYTES, ANSWER_BYTES + 1, 2 * ANSWER_BYTES];
-    let runs = |code: u8| (1..=longest).flat_map(move |n| rooms.map(|room| run(code, n, room))).collect();
-    (0..=255).map(|code| Stream { seed: code as u64, start: Start::Reset, words: Model::reset().to_words(), runs: runs(code) }).collect()
+    let steps = |code: u8| (1..=longest).flat_map(move |n| rooms.map(|room| run(code, n, room))).collect();
+    (0..=255).map(|code| Stream { seed: code as u64, start: Start::Reset, words: Model::reset().to_words(), steps: steps(code) }).collect()
 }
 
 /// All of nfo, ie, e, cp, p, w in one mode, translation and mask, met by every kind, selector and size.
@@ -176,8 +179,90 @@ fn flips() -> impl Iterator<Item = Stream> {
     })
 }
 
+/// A miss of one strand, side, context, N and ps0, with what is written for it: the registers of ps1 and of the other table differ.
+struct Asked {
+    strand: u8,
+    side: u8,
+    context: u64,
+    n: u32,
+    code: u64,
+}
+
+/// Bits on both sides of the lowest bit that a tag has, and of the lowest that is compared for 256 MB.
+const MISSED: u64 = 0x0000_1234_5A5A_6000;
+
+impl Asked {
+    fn registers(&self) -> Run {
+        let (side, nonzero) = (self.side, self.context != 0);
+        let write = |register, value| Command::Write { strand: self.strand, register, value };
+        let commands = [
+            write(tsb_base_of(side, nonzero, 0), 0x7_0000_0000 + self.n as u64),
+            write(tsb_base_of(side, nonzero, 1), 0x7_0000_0000 + (self.n as u64 + 1) % 16),
+            write(tsb_base_of(side, !nonzero, 0), 0x7_0000_0000 + (self.n as u64 + 2) % 16),
+            write(tsb_configuration_of(side, nonzero), self.code + 256 * if self.code == 0 { 1 } else { 0 }),
+            write(TAG_ACCESS + side, MISSED + self.context),
+        ];
+        Run { room: ANSWER_BYTES * commands.len(), input: commands.into_iter().flat_map(encode).collect() }
+    }
+
+    fn at(&self) -> usize {
+        let by = [13, 16, 0, 22, 0, 28][self.code as usize];
+        16 * ((MISSED >> by) as usize % (1 << (9 + self.n)))
+    }
+
+    fn fitting(&self) -> Tte {
+        Tte { tag: self.context << 48 | MISSED >> 22, word: 1 << 63 | 0x5_5555_2440 | self.code }
+    }
+
+    /// The table used with one entry and of one length; the other one of another.
+    fn miss(&self, tte: Tte, length: usize, unused: usize) -> Step {
+        let used = Table { length, everywhere: None, entries: vec![(self.at(), tte)] };
+        let unused = Table { length: unused, everywhere: Some(self.fitting()), entries: Vec::new() };
+        let (zero, other) = if self.context == 0 { (used, unused) } else { (unused, used) };
+        Step::Serve(Miss { strand: self.strand, side: self.side, zero, other })
+    }
+
+    fn stream(&self, seed: u64, misses: impl Iterator<Item = Step>) -> Stream {
+        let steps = [Step::Run(self.registers())].into_iter().chain(misses).collect();
+        Stream { seed, start: Start::Reset, words: Model::reset().to_words(), steps }
+    }
+}
+
+/// For each side, both tables and each ps0: the entry that fits, and each that is one bit away.
+fn tsb_bits() -> impl Iterator<Item = Stream> {
+    let each = (0..2).flat_map(|side| [0, 0x1555].into_iter().flat_map(move |context| [0, 1, 3, 5].map(|code| (side, context, code))));
+    each.map(|(side, context, code)| {
+        let asked = Asked { strand: 3, side, context, n: 0, code };
+        let flipped = (0..128).map(|bit| {
+            let Tte { tag, word } = asked.fitting();
+            if bit < 64 { Tte { tag: tag ^ 1 << bit, word } } else { Tte { tag, word: word ^ 1 << (bit - 64) } }
+        });
+        asked.stream(7, [asked.fitting()].into_iter().chain(flipped).map(|tte| asked.miss(tte, tsb_bytes(0), 0)))
+    })
+}
+
+/// For each N, both tables and each ps0: lengths at and around those of a table, and of the unused one.
+fn tsb_lengths() -> impl Iterator<Item = Stream> {
+    let each = (0..6).flat_map(|n| [0, 1].into_iter().flat_map(move |context| [0, 1, 3, 5].map(|code| (n, context, code))));
+    each.map(|(n, context, code)| {
+        let asked = Asked { strand: 1, side: 1, context, n, code };
+        let right = tsb_bytes(n);
+        let used = [0, 1, 15, 16, 17, right / 2, right - 16, right - 1, right + 1, right + 16, right * 2].map(|length| (length, right));
+        let unused = [0, 1, right - 1, right, right + 1, right * 4].map(|length| (right, length));
+        asked.stream(8, used.into_iter().chain(unused).map(|(used, unused)| asked.miss(asked.fitting(), used, unused)))
+    })
+}
+
+/// Every strand byte, and every side byte.
+fn tsb_operands() -> Stream {
+    let asked = Asked { strand: 0, side: 0, context: 5, n: 0, code: 0 };
+    let with = |strand: u8, side: u8| Asked { strand, side, context: 5, n: 0, code: 0 }.miss(asked.fitting(), tsb_bytes(0), 3);
+    asked.stream(9, (0..=255).flat_map(|byte| [with(byte, 0), with(0, byte), with(byte, 2)]))
+}
+
 pub fn all() -> impl Iterator<Item = Stream> {
     let modes = (0..3).flat_map(|mode| (0..4).flat_map(move |translation| (0..2).map(move |mask| attributes(mode, translation, mask))));
     let lengths = (0..=2 * STATE_WORDS + 120).filter(|n| *n != STATE_WORDS).map(|n| from_words(6, Start::WrongLength, vec![0; n]));
-    [registers(), operands()].into_iter().chain(codes()).chain(modes).chain(neighbours()).chain(flips()).chain(lengths)
+    let misses = tsb_bits().chain(tsb_lengths()).chain([tsb_operands()]);
+    [registers(), operands()].into_iter().chain(codes()).chain(modes).chain(neighbours()).chain(flips()).chain(lengths).chain(misses)
 }
