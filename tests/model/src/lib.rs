@@ -7,6 +7,7 @@ pub mod coverage;
 pub mod generate;
 pub mod ledger;
 pub mod library;
+pub mod misses;
 pub mod model;
 pub mod random;
 pub mod states;

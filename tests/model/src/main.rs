@@ -2,16 +2,17 @@
 use model::compare::{compare, compare_words, shrink, stream, told, Counts, Stream};
 use model::coverage::Coverage;
 use model::vectors::{self, Vector};
-use model::{broken, sweeps};
+use model::{broken, misses, sweeps};
 use std::io::Write;
 use std::process::{exit, Command, Stdio};
 use t1mmu::{state_words, STATE_WORDS};
 
-const USAGE: &str = "model [--seed N] [--streams N] [--broken NAME] [--quiet] [--sweeps] [--vectors FILE] [--printed STDIN STDOUT] [--program PATH]
+const USAGE: &str = "model [--seed N] [--streams N] [--broken NAME] [--quiet] [--sweeps] [--vectors FILE] [--misses FILE] [--printed STDIN STDOUT] [--program PATH]
   --streams N     random streams (default 20000); each has one to four runs
   --seed N        the first stream's seed (default 1); stream i has seed N + i
   --broken NAME   breaks the model on purpose: the comparison has to fail
   --vectors FILE  hand-checked runs through model, ledger and library, and through the program
+  --misses FILE   hand-checked serves through model, ledger and library
   --printed A B   the stream program's input A and its output B, likewise
   --program PATH  the stream program; it takes the runs of every 40th stream, too, each from reset
   --sweeps        operands, registers, attributes, one-bit flips of a state, page sizes side by side: each case once
@@ -23,6 +24,7 @@ struct Options {
     quiet: bool,
     sweeps: bool,
     vectors: Option<String>,
+    misses: Option<String>,
     printed: Option<(String, String)>,
     program: Option<String>,
 }
@@ -37,7 +39,7 @@ fn fail(why: &str) -> ! {
 }
 
 fn options() -> Options {
-    let mut o = Options { seed: 1, streams: 20000, quiet: false, sweeps: false, vectors: None, printed: None, program: None };
+    let mut o = Options { seed: 1, streams: 20000, quiet: false, sweeps: false, vectors: None, misses: None, printed: None, program: None };
     let mut args = std::env::args().skip(1);
     while let Some(word) = args.next() {
         match word.as_str() {
@@ -51,6 +53,7 @@ fn options() -> Options {
             "--quiet" => o.quiet = true,
             "--sweeps" => o.sweeps = true,
             "--vectors" => o.vectors = args.next(),
+            "--misses" => o.misses = args.next(),
             "--printed" => o.printed = args.next().zip(args.next()),
             "--program" => o.program = args.next(),
             _ => fail(USAGE),
@@ -67,16 +70,38 @@ fn differs(name: &str, who: &str, expected: &str, got: &str) -> u64 {
     1
 }
 
+fn read_file(path: &String) -> Vec<u8> {
+    std::fs::read(path).unwrap_or_else(|e| fail(&format!("{path}: {e}")))
+}
+
+fn text_of(path: &String) -> String {
+    String::from_utf8(read_file(path)).unwrap_or_else(|e| fail(&e.to_string()))
+}
+
+/// Hand-checked serves; how many differ.
+fn fixed_misses(path: &String) -> u64 {
+    let all = misses::read(&text_of(path));
+    if all.is_empty() {
+        fail("no miss was read");
+    }
+    let mut differ = 0;
+    for v in &all {
+        differ += differs(&v.name, "model", &v.expected(), &misses::by_model(v));
+        differ += differs(&v.name, "ledger", &v.expected(), &misses::by_ledger(v));
+        differ += differs(&v.name, "library", &v.expected(), &misses::by_library(v));
+    }
+    println!("model: {} fixed lists of runs and serves through model, ledger, library, {differ} differ", all.len());
+    differ
+}
+
 /// Vectors and the printed run; how many differ.
 fn fixed_runs(o: &Options) -> u64 {
-    let text = |path: &String| std::fs::read(path).unwrap_or_else(|e| fail(&format!("{path}: {e}")));
-    let utf8 = |path: &String| String::from_utf8(text(path)).unwrap_or_else(|e| fail(&e.to_string()));
-    let mut all: Vec<Vector> = o.vectors.as_ref().map_or(Vec::new(), |path| vectors::read(&utf8(path)));
+    let mut all: Vec<Vector> = o.vectors.as_ref().map_or(Vec::new(), |path| vectors::read(&text_of(path)));
     if o.vectors.is_some() && all.is_empty() {
         fail("no vector was read");
     }
     if let Some((input, output)) = &o.printed {
-        all.push(Vector { name: "the printed run".to_string(), input: text(input), output: utf8(output) });
+        all.push(Vector { name: "the printed run".to_string(), input: read_file(input), output: text_of(output) });
     }
     let mut differ = 0;
     for v in &all {
@@ -141,6 +166,7 @@ fn main() {
     let o = options();
     let mut differ = differs("words of a state", "library", &format!("{STATE_WORDS}\n"), &format!("{}\n", state_words()));
     differ += fixed_runs(&o);
+    differ += o.misses.as_ref().map_or(0, fixed_misses);
     match compare_words(100_000, o.seed) {
         Ok(n) => println!("model: {n} entry words unpacked and packed, 0 differ"),
         Err(error) => {

@@ -15,8 +15,12 @@ pub struct Vector {
     pub output: String,
 }
 
-fn bytes(hex: &str) -> Vec<u8> {
+pub fn bytes(hex: &str) -> Vec<u8> {
     (0..hex.len() / 2).map(|i| u8::from_str_radix(&hex[2 * i..2 * i + 2], 16).expect("hexadecimal")).collect()
+}
+
+pub fn hex(bytes: &[u8]) -> String {
+    bytes.iter().map(|b| format!("{b:02x}")).collect()
 }
 
 /// A line `# name`, a line `in` with the input in hexadecimal, the answers, and the line `end ..`.
@@ -36,11 +40,10 @@ pub fn read(text: &str) -> Vec<Vector> {
     all
 }
 
-fn printed(report: Report, output: &[u8]) -> String {
+pub fn printed(report: Report, output: &[u8]) -> String {
     let mut text = String::new();
     for answer in output.chunks(ANSWER_BYTES).take(report.answered) {
-        text += &answer.iter().map(|b| format!("{b:02x}")).collect::<String>();
-        text += "\n";
+        text += &(hex(answer) + "\n");
     }
     text + &format!("end {} {} {}\n", report.answered, report.taken, report.stop)
 }
@@ -70,7 +73,7 @@ pub fn by_ledger(vector: &Vector) -> String {
         }
         let given = ledger.answer(decode(&vector.input[at..]), &bytes(line));
         at += width(vector.input[at]).unwrap_or(1);
-        text += &given.map_or("none".to_string(), |g| g.iter().map(|b| format!("{b:02x}")).collect());
+        text += &given.map_or("none".to_string(), |g| hex(&g));
         text += "\n";
     }
     text
