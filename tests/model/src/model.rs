@@ -611,7 +611,7 @@ impl Model {
     }
 
     /// 5, 6 and 14; else the part of the table used at the ps0 pointer.
-    pub fn hand_back(&self, strand: u8, side: u8, tables: [&[u8]; 2]) -> Part {
+    fn part(&self, strand: u8, side: u8, tables: [&[u8]; 2]) -> Part {
         let refused = |number: u8| Part { number, ..Part::default() };
         if let Some(number) = first_failing(&[(5, strand > 3), (6, side > 1)]) {
             return refused(number);
@@ -625,9 +625,14 @@ impl Model {
         }
         let code = if broken::is(Broken::ServeBy8K) { 0 } else { tsb.code };
         let start = tsb_offset(tsb.n, code, tsb.tag) as usize;
-        let part = Part { number: 0, other: used as u8, start, length: 16 };
-        if broken::is(Broken::HandBackFitOnly) && !self.misfits(&tsb, &tables[used][start..start + 16]).is_empty() {
-            return Part { start: 0, length: 0, ..part };
+        Part { number: 0, other: used as u8, start, length: 16 }
+    }
+
+    pub fn hand_back(&self, strand: u8, side: u8, tables: [&[u8]; 2]) -> Part {
+        let part = self.part(strand, side, tables);
+        let entry = || &tables[part.other as usize][part.start..part.start + 16];
+        if broken::is(Broken::HandBackFitOnly) && part.number == 0 && !self.misfits(&self.tsb(strand, side), entry()).is_empty() {
+            return Part::default();
         }
         part
     }
@@ -659,7 +664,7 @@ impl Model {
 
     /// Hand back's refusals; on a fit alone those of command 0x02 without flags, and its insertion.
     pub fn serve(&mut self, strand: u8, side: u8, tables: [&[u8]; 2]) -> Answer {
-        let part = self.hand_back(strand, side, tables);
+        let part = self.part(strand, side, tables);
         if part.number != 0 {
             return Answer::Refused { number: part.number };
         }
