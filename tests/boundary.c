@@ -1,6 +1,6 @@
 /*
  * The C boundary of the library: lengths, rooms and pointers that a caller may get wrong, with every buffer guarded on both sides.
- * What is expected is written here from document 01, not taken from the library.
+ * What is expected is written here from the documents, not taken from the library.
  */
 #include "lent.h"
 
@@ -103,6 +103,10 @@ static void constants(void)
     expect(T1MMU_TSB_CONFIGURATION_OF(0, 1) == 17 && T1MMU_TSB_CONFIGURATION_OF(1, 1) == 19, "TSB configuration registers", 0);
     expect(sizeof(struct t1mmu_report) == 24 && offsetof(struct t1mmu_report, stop) == 16, "layout of the report", 0);
     expect(sizeof(struct t1mmu_tte) == 104 && offsetof(struct t1mmu_tte, size) == 96, "layout of the fields", 0);
+    expect(sizeof(struct t1mmu_part) == 24 && offsetof(struct t1mmu_part, other) == 1 && offsetof(struct t1mmu_part, start) == 8
+               && offsetof(struct t1mmu_part, length) == 16, "layout of a part", 0);
+    expect(sizeof(struct t1mmu_answered) == ANSWER, "layout of what a serve answers", 0);
+    expect(T1MMU_TSB_BYTES(0) == 8192 && T1MMU_TSB_BYTES(15) == 268435456, "bytes of a TSB", 0);
 }
 
 /* The register whose cell a word is; none is T1MMU_CELLS. */
@@ -235,6 +239,201 @@ static void inserted(void)
     expect(words()[T1MMU_CELL_AT(0, T1MMU_TRANSLATION)] == 3, "the register that was written", 0);
 }
 
+/* ---- the miss handler ---- */
+
+#define TSB T1MMU_TSB_BYTES(0)
+#define ENTRY T1MMU_TSB_ENTRY_BYTES
+
+static struct lent zero, other;
+static uint64_t before[2 * WORDS];
+
+/* What fits the page 0x402000 of 8 KB in context 0, at entry 1 of 512; the word is the printed run's. */
+static const uint8_t fits[ENTRY] = {0, 0, 0, 0, 0, 0, 0, 1, 0x80, 0, 0, 0, 0, 8, 4, 0x40};
+
+static void place_table(struct lent *table, size_t n, int upper)
+{
+    lent_place(table, n, upper);
+    memset(table->bytes, 0, n);
+    for (size_t i = 0; i < ENTRY && ENTRY + i < n; i++)
+        table->bytes[ENTRY + i] = fits[i];
+}
+
+/* The printed run up to its load that misses. */
+static void place_missed(int upper)
+{
+    place_reset(upper);
+    place_input(printed, END_3, upper);
+    place_output(3 * ANSWER, upper);
+    expect(is(run(), 3, END_3, 0) && has_answers(3), "the load that misses", upper);
+}
+
+static void expect_part(struct t1mmu_part p, unsigned number, unsigned of_other, size_t start, const char *what, long at)
+{
+    expect(p.number == number && p.other == of_other && p.start == start && p.length == (number == 0 ? ENTRY : 0u), what, at);
+}
+
+static void expect_answer(struct t1mmu_answered a, unsigned kind, unsigned number, const char *what, long at)
+{
+    expect(a.bytes[0] == kind && a.bytes[1] == number && all_are(a.bytes + 2, ANSWER - 2, 0), what, at);
+}
+
+static int state_kept(void) { return memcmp(state.bytes, before, state.length) == 0; }
+
+static void expect_kept(const char *what, long at)
+{
+    expect(state_kept(), what, at);
+    expect(lent_whole(&state) && lent_whole(&zero) && lent_whole(&other), "guards changed by the miss handler", at);
+}
+
+/* Both calls, refused with a number; nothing changes. */
+static void expect_no(unsigned strand, unsigned side, unsigned number, const char *what, long at)
+{
+    uint8_t s = (uint8_t)strand, t = (uint8_t)side;
+    const uint8_t *z = zero.length == 0 ? NULL : zero.bytes, *o = other.length == 0 ? NULL : other.bytes;
+    memcpy(before, state.bytes, state.length);
+    expect_part(t1mmu_hand_back(words(), state.length / 8, s, t, z, zero.length, o, other.length), number, 0, 0, what, at);
+    expect_answer(t1mmu_serve(words(), state.length / 8, s, t, z, zero.length, o, other.length), T1MMU_REFUSED, number, what, at);
+    expect_kept(what, at);
+}
+
+/* A state of a wrong length: 1, whatever else is wrong. */
+static void wrong_states(int upper)
+{
+    place_table(&zero, TSB, upper);
+    place_table(&other, 0, upper);
+    for (size_t k = 0; k < WRONGS; k++) {
+        lent_place(&state, wrong[k] * 8, upper);
+        memset(state.bytes, 0, state.length);
+        expect_no(0, 1, 1, "the miss handler on a wrong length", (long)wrong[k]);
+        expect_no(255, 255, 1, "number 1 comes first", (long)wrong[k]);
+    }
+    expect_part(t1mmu_hand_back(NULL, 0, 0, 0, NULL, 0, NULL, 0), 1, 0, 0, "hand back of nothing at all", upper);
+    expect_answer(t1mmu_serve(NULL, 0, 0, 0, NULL, 0, NULL, 0), T1MMU_REFUSED, 1, "a serve of nothing at all", upper);
+}
+
+static void handler_operands(int upper)
+{
+    place_missed(upper);
+    place_table(&zero, TSB - 1, upper);
+    place_table(&other, TSB, upper);
+    for (unsigned byte = 0; byte < 256; byte++) {
+        expect_no(byte, 2, byte < T1MMU_STRANDS ? 6 : 5, "strands with a side that is none", (long)byte);
+        expect_no(0, byte, byte < T1MMU_SIDES ? 14 : 6, "sides with a table that is too short", (long)byte);
+        expect_no(byte, 1, byte < T1MMU_STRANDS ? 14 : 5, "strands with a table that is too short", (long)byte);
+    }
+}
+
+/* What a serve changes: the one slot, and no register. */
+static void expect_served(size_t slot, const uint64_t *holds, const char *what, long at)
+{
+    int same = 1;
+    for (size_t i = 0; i < WORDS; i++)
+        same = same && words()[i] == (slot <= i && i < slot + T1MMU_SLOT_WORDS ? holds[i - slot] : before[i]);
+    expect(same, what, at);
+    expect(lent_whole(&state) && lent_whole(&zero) && lent_whole(&other), "guards changed by a serve", at);
+}
+
+/* The table used at lengths around its own, the other one at any; then the load again. */
+static void handler_lengths(int upper)
+{
+    static const size_t near[] = {0, 1, ENTRY, 2 * ENTRY, TSB / 2, TSB - ENTRY, TSB - 1, TSB, TSB + 1, TSB + ENTRY, 2 * TSB};
+    static const uint64_t slot[T1MMU_SLOT_WORDS] = {0, 0x402000, 0x8000000000080440, 2};
+    for (size_t k = 0; k < sizeof near / sizeof *near; k++) {
+        place_missed(upper);
+        place_table(&other, TSB, upper);
+        place_table(&zero, near[k], upper);
+        if (near[k] != TSB)
+            expect_no(0, 1, 14, "a table of a wrong length", (long)near[k]);
+        place_table(&zero, TSB, upper);
+        place_table(&other, near[k], upper);
+        const uint8_t *o = near[k] == 0 ? NULL : other.bytes;
+        memcpy(before, state.bytes, state.length);
+        expect_part(t1mmu_hand_back(words(), WORDS, 0, 1, zero.bytes, TSB, o, near[k]), 0, 0, ENTRY, "a part of table zero", (long)near[k]);
+        expect_kept("hand back changed the state", (long)near[k]);
+        expect_answer(t1mmu_serve(words(), WORDS, 0, 1, zero.bytes, TSB, o, near[k]), T1MMU_DONE, 0, "a serve", (long)near[k]);
+        expect_served(T1MMU_SLOT_AT(T1MMU_DATA, 0), slot, "what a serve changed", (long)near[k]);
+        expect(memcmp(zero.bytes + ENTRY, fits, ENTRY) == 0 && all_are(zero.bytes, ENTRY, 0), "a table was written", (long)near[k]);
+        place_input(printed + END_4, sizeof printed - END_4, upper);
+        place_output(ANSWER, upper);
+        expect(is(run(), 1, T1MMU_ACCESS_BYTES, 0) && memcmp(output.bytes, answers[COMMANDS - 1], ANSWER) == 0, "the load again", (long)near[k]);
+    }
+}
+
+/* One range lent as both tables: context 0 and context 5 hand back the same bytes; each fits its own context alone. */
+static void one_range(int upper)
+{
+    place_missed(upper);
+    place_table(&zero, TSB, upper);
+    place_table(&other, 0, upper);
+    words()[T1MMU_CELL_AT(0, T1MMU_TAG_ACCESS + 1)] += 5;
+    memcpy(before, state.bytes, state.length);
+    expect_part(t1mmu_hand_back(words(), WORDS, 0, 1, zero.bytes, TSB, zero.bytes, TSB), 0, 1, ENTRY, "a part of the other table", upper);
+    expect_answer(t1mmu_serve(words(), WORDS, 0, 1, zero.bytes, TSB, zero.bytes, TSB), T1MMU_NOT_IN_TABLE, 0, "context 5", upper);
+    expect_kept("not in table changed the state", upper);
+    zero.bytes[ENTRY + 1] = 5;
+    expect_answer(t1mmu_serve(words(), WORDS, 0, 1, zero.bytes, TSB, zero.bytes, TSB), T1MMU_DONE, 0, "context 5 in the tag", upper);
+    words()[T1MMU_CELL_AT(0, T1MMU_TAG_ACCESS + 1)] -= 5;
+    expect_answer(t1mmu_serve(words(), WORDS, 0, 1, zero.bytes, TSB, zero.bytes, TSB), T1MMU_NOT_IN_TABLE, 0, "context 0", upper);
+}
+
+/* Each single bit of the 16 bytes turned: kind 6, but for the word's bits that are no part of the fit, of which 55:40 get 12. */
+static void turned_bits(void)
+{
+    for (unsigned bit = 0; bit < 8 * ENTRY; bit++) {
+        unsigned of_word = bit < 64 ? bit : 64; /* bits are counted from the entry's last byte: the word's first */
+        int part_of_fit = of_word == 64 || of_word == 63 || of_word < 4, refused = 40 <= of_word && of_word <= 55;
+        place_missed(1);
+        place_table(&zero, TSB, 1);
+        place_table(&other, 0, 1);
+        zero.bytes[2 * ENTRY - 1 - bit / 8] ^= (uint8_t)(1u << bit % 8);
+        memcpy(before, state.bytes, state.length);
+        expect_part(t1mmu_hand_back(words(), WORDS, 0, 1, zero.bytes, TSB, NULL, 0), 0, 0, ENTRY, "a part with a bit turned", (long)bit);
+        expect_answer(t1mmu_serve(words(), WORDS, 0, 1, zero.bytes, TSB, NULL, 0),
+                      part_of_fit ? T1MMU_NOT_IN_TABLE : refused ? T1MMU_REFUSED : T1MMU_DONE, refused ? 12 : 0, "a bit turned", (long)bit);
+        expect(state_kept() == (part_of_fit || refused), "whether a bit turned changes the state", (long)bit);
+    }
+}
+
+/* One word of the reset state set to all ones: the miss handler refuses with 1 what a run stops at with 1. */
+static void unsound_misses(void)
+{
+    place_table(&zero, 0, 1);
+    place_table(&other, 0, 1);
+    for (size_t i = 0; i < WORDS; i++) {
+        place_reset(1);
+        words()[i] = UINT64_MAX;
+        expect_no(0, 0, 20 <= register_at(i) && register_at(i) <= 25 ? 14 : 1, "the miss handler and a word of ones", (long)i);
+    }
+}
+
+/* N 15: 256 MB between two pages that may not be touched, zeros but for the last entry. */
+static void largest_table(void)
+{
+    const size_t bytes = T1MMU_TSB_BYTES(15);
+    const uint64_t page = UINT64_C(0x1fffffe000); /* page 2^24 - 1 of 8 KB: 2^15 - 1 of 4 MB */
+    uint8_t *all = mmap(NULL, bytes + 2 * LENT_PAGE, PROT_NONE, MAP_PRIVATE | MAP_ANONYMOUS | MAP_NORESERVE, -1, 0);
+    if (all == MAP_FAILED || mprotect(all + LENT_PAGE, bytes, PROT_READ | PROT_WRITE) != 0) {
+        perror("largest_table");
+        exit(2);
+    }
+    uint8_t *table = all + LENT_PAGE, *last = table + bytes - ENTRY;
+    place_reset(1);
+    words()[T1MMU_CELL_AT(3, T1MMU_TSB_BASE_OF(0, 0, 0))] = 15;
+    words()[T1MMU_CELL_AT(3, T1MMU_TAG_ACCESS)] = page;
+    memcpy(before, state.bytes, state.length);
+    for (size_t length = bytes - 1; length <= bytes + 1; length += 2)
+        expect_part(t1mmu_hand_back(words(), WORDS, 3, 0, table, length, NULL, 0), 14, 0, 0, "256 MB, and one byte off", (long)length);
+    expect_part(t1mmu_hand_back(words(), WORDS, 3, 0, table, bytes, NULL, 0), 0, 0, bytes - ENTRY, "the last entry of 256 MB", 0);
+    expect_answer(t1mmu_serve(words(), WORDS, 3, 0, table, bytes, NULL, 0), T1MMU_NOT_IN_TABLE, 0, "256 MB of zeros", 0);
+    expect(state_kept(), "256 MB of zeros changed the state", 0);
+    memcpy(last, fits, ENTRY);
+    last[6] = 0x7f;
+    last[7] = 0xff;
+    expect_answer(t1mmu_serve(words(), WORDS, 3, 0, table, bytes, NULL, 0), T1MMU_DONE, 0, "the last entry fits", 0);
+    expect(words()[T1MMU_SLOT_AT(0, 0) + 1] == page && words()[T1MMU_SLOT_AT(0, 0) + 2] == UINT64_C(0x8000000000080440), "the page served", 0);
+    munmap(all, bytes + 2 * LENT_PAGE);
+}
+
 /* ---- entry words ---- */
 
 static const unsigned low[13] = {63, 62, 56, 13, 12, 11, 10, 9, 8, 7, 6, 4, 0};
@@ -267,6 +466,8 @@ int main(void)
     state = lent_new(2 * WORDS * 8);
     input = lent_new(sizeof printed);
     output = lent_new(2 * COMMANDS * ANSWER);
+    zero = lent_new(2 * TSB);
+    other = lent_new(2 * TSB);
     constants();
     for (int upper = 0; upper < 2; upper++) {
         resets(upper);
@@ -276,9 +477,16 @@ int main(void)
             rooms(commands, upper);
         prefixes(upper);
         unknown_commands(upper);
+        wrong_states(upper);
+        handler_operands(upper);
+        handler_lengths(upper);
+        one_range(upper);
     }
     unsound_words();
     inserted();
+    turned_bits();
+    unsound_misses();
+    largest_table();
     entry_words();
     printf("%lu compared, %lu differ\n", compared, differ);
     return differ == 0 ? 0 : 1;

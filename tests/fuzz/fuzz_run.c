@@ -1,7 +1,7 @@
 /*
- * A fuzz target over t1mmu_run: a state and a stream are made from the fuzzer's bytes, and what must hold of every run is asked of it.
- * The library has no coverage counters of its own, so the fuzzer is guided by what it answers: a counter for each command, kind of
- * answer and number in it, and for each stop.
+ * A fuzz target over t1mmu_run and the miss handler: a state, a stream and a miss behind it are made from the fuzzer's bytes, and what must
+ * hold of every run and of every serve is asked of them. The library has no coverage counters of its own, so the fuzzer is guided by what
+ * it answers: a counter for each command, kind of answer and number in it, and for each stop.
  */
 #include "../lent.h"
 
@@ -305,7 +305,178 @@ static void judge_again(struct t1mmu_report r, unsigned part)
     HOLDS(memcmp(copy, state.bytes, state.length) == 0 && memcmp(copied, output.bytes, output.length) == 0);
 }
 
-/* ---- one run ---- */
+/* ---- a miss, on the state that the run left ---- */
+
+#define MOST_N 2u
+#define MOST_TABLE (T1MMU_TSB_BYTES(MOST_N) + 1)
+#define SERVE 15u /* beside the commands in seen */
+
+struct miss {
+    uint8_t strand, side;
+    unsigned n, length, turned; /* turned: the bit of the entry that does not fit, 128 and above none */
+    uint64_t word;
+};
+
+static struct lent tables[2];
+static uint8_t lent_bytes[2][MOST_TABLE];
+
+static uint64_t eight(const uint8_t *at)
+{
+    uint64_t v = 0;
+    for (int i = 0; i < 8; i++)
+        v = v << 8 | at[i];
+    return v;
+}
+
+static struct miss draw_miss(struct source *s)
+{
+    struct miss m;
+    m.strand = (uint8_t)mostly(s, T1MMU_STRANDS);
+    m.side = (uint8_t)mostly(s, T1MMU_SIDES);
+    m.n = draw(s) % 8;
+    m.n = m.n > MOST_N ? 0 : m.n;
+    m.length = draw(s);
+    m.turned = draw(s);
+    m.word = entry_word(s);
+    return m;
+}
+
+static uint64_t cell(const struct miss *m, unsigned number) { return words()[T1MMU_CELL_AT(m->strand, number)]; }
+
+/* What tag access picks: the table, its N, and the size code of ps0. Asked of a sound state, strand and side alone. */
+static uint64_t tag_of(const struct miss *m) { return cell(m, T1MMU_TAG_ACCESS + m->side); }
+static unsigned table_of(const struct miss *m) { return tag_of(m) % 8192 != 0; }
+static unsigned n_of(const struct miss *m) { return cell(m, T1MMU_TSB_BASE_OF(m->side, table_of(m), 0)) % 16; }
+static unsigned code_of(const struct miss *m) { return cell(m, T1MMU_TSB_CONFIGURATION_OF(m->side, table_of(m))) % 8; }
+
+static size_t place_of(const struct miss *m)
+{
+    static const unsigned shift[T1MMU_256M + 1] = {13, 16, 0, 22, 0, 28};
+    return (tag_of(m) >> shift[code_of(m)]) % (UINT64_C(1) << (9 + n_of(m))) * T1MMU_TSB_ENTRY_BYTES;
+}
+
+static void put_register(const struct miss *m, unsigned number, uint64_t to)
+{
+    put(&first, T1MMU_WRITE);
+    put(&first, m->strand);
+    put(&first, number);
+    put8(&first, to);
+}
+
+/* A small N in both base registers, so that a table can be lent, and any ps0. */
+static void write_tsb(const struct miss *m)
+{
+    static const unsigned code[4] = {0, 1, 3, 5};
+    unsigned side = m->side & 1u;
+    first.length = 0;
+    for (unsigned nonzero = 0; nonzero < 2; nonzero++) {
+        put_register(m, T1MMU_TSB_BASE_OF(side, nonzero, 0), (uint64_t)m->turned << 13 | m->n);
+        put_register(m, T1MMU_TSB_CONFIGURATION_OF(side, nonzero), code[m->length / 32 % 4]);
+    }
+    t1mmu_run(words(), state.length / 8, first.bytes, first.length, scratch, sizeof scratch);
+}
+
+/* Zeros, but for the entry of tag access: its tag and the drawn word of ps0, with one bit turned. */
+static void put_entry(const struct miss *m, uint8_t *at)
+{
+    uint64_t tag = tag_of(m) % 8192 << 48 | tag_of(m) >> 22, word = m->word / 16 * 16 + code_of(m);
+    for (unsigned i = 0; i < 8; i++) {
+        at[i] = (uint8_t)(tag >> (56 - 8 * i));
+        at[8 + i] = (uint8_t)(word >> (56 - 8 * i));
+    }
+    if (m->turned < 8 * T1MMU_TSB_ENTRY_BYTES)
+        at[m->turned / 8] ^= (uint8_t)(0x80u >> m->turned % 8);
+}
+
+static void make_tables(const struct miss *m, int good, int upper)
+{
+    static const int off[8] = {0, 0, 0, 0, 0, -1, 1, -16};
+    size_t right = T1MMU_TSB_BYTES(m->n), used = right + (size_t)off[m->length % 8];
+    static const size_t any[4] = {0, 1, T1MMU_TSB_BYTES(0) - 1, T1MMU_TSB_BYTES(1)};
+    unsigned which = good ? table_of(m) : 0;
+    lent_place(&tables[which], used, upper);
+    lent_place(&tables[1 - which], any[m->length / 8 % 4], upper);
+    for (unsigned i = 0; i < 2; i++)
+        memset(tables[i].bytes, 0, tables[i].length);
+    if (good && place_of(m) + T1MMU_TSB_ENTRY_BYTES <= used)
+        put_entry(m, tables[which].bytes + place_of(m));
+    for (unsigned i = 0; i < 2; i++)
+        memcpy(lent_bytes[i], tables[i].bytes, tables[i].length);
+}
+
+/* Why both calls are refused, or 0. */
+static unsigned expected_number(const struct miss *m, int sound)
+{
+    if (!sound)
+        return T1MMU_REFUSED_STATE;
+    if (m->strand >= T1MMU_STRANDS)
+        return T1MMU_REFUSED_STRAND;
+    if (m->side >= T1MMU_SIDES)
+        return T1MMU_REFUSED_SIDE;
+    return tables[table_of(m)].length == T1MMU_TSB_BYTES(n_of(m)) ? 0 : T1MMU_REFUSED_TABLE;
+}
+
+static int entry_fits(const struct miss *m, const uint8_t *at)
+{
+    uint64_t tag = eight(at), word = eight(at + 8), key = tag_of(m);
+    unsigned free_bits = code_of(m) == T1MMU_256M ? 6 : 0;
+    return tag >> 48 == key % 8192 && (tag & UINT64_C(0xffffffffffff)) >> free_bits == key >> (22 + free_bits) && word >> 63 == 1
+           && word % 16 == code_of(m);
+}
+
+static struct t1mmu_answered serve(uint64_t *on, const struct miss *m)
+{
+    return t1mmu_serve(on, state.length / 8, m->strand, m->side, tables[0].bytes, tables[0].length, tables[1].bytes, tables[1].length);
+}
+
+static int is_same(const void *one, const void *two) { return memcmp(one, two, state.length) == 0; }
+
+/* A serve that fits is the insertion by command, and once more it strikes its own entry and takes its slot again. */
+static void judge_fit(const struct miss *m, const uint8_t *word, struct t1mmu_answered a)
+{
+    uint8_t command[T1MMU_INSERT_BYTES] = {T1MMU_INSERT, m->strand, m->side, 0}, answer[T1MMU_ANSWER_BYTES];
+    size_t slots = T1MMU_SLOT_AT(0, 0), untouched = T1MMU_SLOT_AT(1 - m->side, 0), side = T1MMU_SLOT_AT(1, 0) - slots;
+    memcpy(command + 4, word, 8);
+    memcpy(copy, before, state.length);
+    HOLDS(t1mmu_run(copy, WORDS, command, sizeof command, answer, sizeof answer).answered == 1);
+    HOLDS(memcmp(answer, a.bytes, sizeof answer) == 0 && is_same(copy, state.bytes));
+    HOLDS(memcmp(words(), before, slots * 8) == 0 && memcmp(words() + untouched, before + untouched, side * 8) == 0);
+    if (a.bytes[0] == T1MMU_REFUSED) {
+        HOLDS(11 <= a.bytes[1] && a.bytes[1] <= 13 && is_same(before, state.bytes));
+        return;
+    }
+    HOLDS(a.bytes[0] == T1MMU_DONE || a.bytes[0] == T1MMU_DISPLACED);
+    struct t1mmu_answered again = serve(copy, m);
+    HOLDS(all_are(again.bytes, sizeof again.bytes, 0) && is_same(copy, state.bytes));
+}
+
+static void judge_miss(const struct miss *m, int upper)
+{
+    write_tsb(m);
+    int sound = t1mmu_run(words(), state.length / 8, NULL, 0, NULL, 0).stop != T1MMU_STOP_UNSOUND;
+    make_tables(m, sound && m->strand < T1MMU_STRANDS && m->side < T1MMU_SIDES, upper);
+    unsigned number = expected_number(m, sound);
+    memcpy(before, state.bytes, state.length);
+    struct t1mmu_part p = t1mmu_hand_back(words(), state.length / 8, m->strand, m->side, tables[0].bytes, tables[0].length, tables[1].bytes,
+                                          tables[1].length);
+    HOLDS(p.number == number && is_same(before, state.bytes));
+    HOLDS(number == 0 ? p.other == table_of(m) && p.start == place_of(m) && p.length == T1MMU_TSB_ENTRY_BYTES
+                      : p.other == 0 && p.start == 0 && p.length == 0);
+    struct t1mmu_answered a = serve(words(), m);
+    seen[(SERVE * 8u + a.bytes[0]) * 128 + (a.bytes[1] & 127)] = 1;
+    const uint8_t *at = tables[p.other].bytes + p.start;
+    if (number == 0 && entry_fits(m, at)) {
+        judge_fit(m, at + 8, a);
+    } else {
+        HOLDS(a.bytes[0] == (number == 0 ? T1MMU_NOT_IN_TABLE : T1MMU_REFUSED) && a.bytes[1] == number);
+        HOLDS(all_are(a.bytes + 2, sizeof a.bytes - 2, 0) && is_same(before, state.bytes));
+    }
+    HOLDS(lent_whole(&state) && lent_whole(&tables[0]) && lent_whole(&tables[1]));
+    for (unsigned i = 0; i < 2; i++)
+        HOLDS(memcmp(lent_bytes[i], tables[i].bytes, tables[i].length) == 0);
+}
+
+/* ---- one run, and one miss behind it ---- */
 
 static void make_buffers(struct source *s, int raw, int upper)
 {
@@ -330,9 +501,12 @@ int LLVMFuzzerTestOneInput(const uint8_t *data, size_t size)
         state = lent_new((WORDS + 1) * 8);
         input = lent_new(MOST_INPUT);
         output = lent_new(MOST_OUTPUT);
+        tables[0] = lent_new(MOST_TABLE);
+        tables[1] = lent_new(MOST_TABLE);
     }
     memset(seen, 0, sizeof seen);
     unsigned plan = draw(&s), part = draw(&s);
+    struct miss miss = draw_miss(&s);
     int sound = make_state(&s, plan & 3, plan >> 2 & 1);
     make_buffers(&s, plan >> 3 & 1, plan >> 2 & 1);
     memcpy(before, state.bytes, state.length);
@@ -341,5 +515,6 @@ int LLVMFuzzerTestOneInput(const uint8_t *data, size_t size)
     judge_stop(r, sound);
     judge_answers(r.answered, r.taken);
     judge_again(r, part);
+    judge_miss(&miss, plan >> 2 & 1);
     return 0;
 }
