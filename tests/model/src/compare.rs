@@ -129,30 +129,6 @@ fn place(at: isize) -> String {
     "outside the state".to_string()
 }
 
-fn compare_run(words: &mut Vec<u64>, run: &Run, r: &mut Random, coverage: &mut Coverage) -> Result<(Report, Vec<u8>), String> {
-    let mut ours = Guarded::new(words.len(), || r.next());
-    ours.inner().copy_from_slice(words);
-    let mut theirs = Guarded { cells: ours.cells.clone(), length: ours.length };
-    let mut out_ours = Guarded::new(run.room, || r.next() as u8);
-    let mut out_theirs = Guarded { cells: out_ours.cells.clone(), length: run.room };
-    let input = run.input.clone();
-    let (report, events) = model::run(ours.inner(), &run.input, out_ours.inner());
-    let got = library::run(theirs.inner(), &input, out_theirs.inner());
-    if report != got {
-        return Err(format!("report: model {report:?}, library {got:?}"));
-    }
-    first_difference("output byte", &out_ours.cells, &out_theirs.cells)
-        .map_err(|e| format!("{e} (answers have {ANSWER_BYTES} bytes each)"))?;
-    state_difference(&ours, &theirs)?;
-    if input != run.input {
-        return Err("the input was written".to_string());
-    }
-    words.copy_from_slice(theirs.inner());
-    coverage.stop(report.stop);
-    coverage.events(&events);
-    Ok((report, out_theirs.inner()[..ANSWER_BYTES * report.answered].to_vec()))
-}
-
 fn state_difference(ours: &Guarded<u64>, theirs: &Guarded<u64>) -> Result<(), String> {
     match ours.cells.iter().zip(&theirs.cells).position(|(m, l)| m != l) {
         None => Ok(()),
@@ -163,47 +139,98 @@ fn state_difference(ours: &Guarded<u64>, theirs: &Guarded<u64>) -> Result<(), St
     }
 }
 
-/// Hand back, which has to leave all as it is, then the serve; what the library gave.
-fn compare_serve(words: &mut Vec<u64>, miss: &Miss, tables: [&[u8]; 2], r: &mut Random, coverage: &mut Coverage) -> Result<(Part, Vec<u8>), String> {
-    let mut ours = Guarded::new(words.len(), || r.next());
-    ours.inner().copy_from_slice(words);
-    let mut theirs = Guarded { cells: ours.cells.clone(), length: ours.length };
-    let part = model::hand_back(ours.inner(), miss.strand, miss.side, tables);
-    let got = library::hand_back(theirs.inner(), miss.strand, miss.side, tables);
-    if part != got {
-        return Err(format!("part: model {part:?}, library {got:?}"));
-    }
-    state_difference(&ours, &theirs).map_err(|e| format!("hand back: {e}"))?;
-    let (answer, events) = model::serve(ours.inner(), miss.strand, miss.side, tables);
-    let answered = library::serve(theirs.inner(), miss.strand, miss.side, tables);
-    if answer != answered {
-        return Err(format!("answer: model {answer:02x?}, library {answered:02x?}"));
-    }
-    state_difference(&ours, &theirs)?;
-    if tables != [&miss.zero.bytes()[..], &miss.other.bytes()[..]] {
-        return Err("a table was written".to_string());
-    }
-    words.copy_from_slice(theirs.inner());
-    coverage.served(part.number, &answer, &events);
-    Ok((part, answered.to_vec()))
+/// A stream on its way: the words that the last step left, the ledger where it began at reset, and what is counted.
+struct Walk<'a> {
+    words: Vec<u64>,
+    ledger: Option<Ledger>,
+    r: Random,
+    coverage: &'a mut Coverage,
+    counts: &'a mut Counts,
 }
 
-/// The ledger's part and answer, against the library's bytes.
-fn compare_ledger_serve(ledger: &mut Ledger, miss: &Miss, tables: [&[u8]; 2], part: Part, answer: &[u8]) -> Result<(), String> {
-    let [zero, other] = tables;
-    let given = ledger.hands_back(miss.strand, miss.side, zero, other);
-    let got = match part.number {
-        0 => Ok(&tables[part.other as usize][part.start..part.start + part.length]),
-        number => Err(number),
-    };
-    if given != got {
-        return Err(format!("part: ledger {given:02x?}, library {got:02x?}"));
+impl Walk<'_> {
+    /// The state between guards, for the model and for the library.
+    fn lent_words(&mut self) -> [Guarded<u64>; 2] {
+        let mut ours = Guarded::new(self.words.len(), || self.r.next());
+        ours.inner().copy_from_slice(&self.words);
+        let theirs = Guarded { cells: ours.cells.clone(), length: ours.length };
+        [ours, theirs]
     }
-    let given = ledger.serves(miss.strand, miss.side, zero, other, answer);
-    if given.as_ref().map(|b| &b[..]) != Some(answer) {
-        return Err(format!("answer: ledger {given:02x?}, library {answer:02x?}"));
+
+    fn step(&mut self, step: &Step) -> Result<(), String> {
+        self.counts.states += 1;
+        match step {
+            Step::Run(run) => self.run(run).map_err(|e| format!("a run: {e}")),
+            Step::Serve(miss) => self.serve(miss).map_err(|e| format!("a serve: {e}")),
+        }
     }
-    Ok(())
+
+    fn run(&mut self, run: &Run) -> Result<(), String> {
+        let (report, answers) = self.compare_run(run)?;
+        self.counts.runs += 1;
+        self.counts.commands += report.answered as u64;
+        let mut at = 0;
+        for answer in answers.chunks(ANSWER_BYTES) {
+            self.coverage.answer(run.input[at], answer);
+            at += width(run.input[at]).expect("taken, so known");
+        }
+        self.ledger.as_mut().map_or(Ok(()), |ledger| compare_ledger(ledger, run, &answers, self.counts))
+    }
+
+    fn compare_run(&mut self, run: &Run) -> Result<(Report, Vec<u8>), String> {
+        let [mut ours, mut theirs] = self.lent_words();
+        let mut out_ours = Guarded::new(run.room, || self.r.next() as u8);
+        let mut out_theirs = Guarded { cells: out_ours.cells.clone(), length: run.room };
+        let input = run.input.clone();
+        let (report, events) = model::run(ours.inner(), &run.input, out_ours.inner());
+        let got = library::run(theirs.inner(), &input, out_theirs.inner());
+        if report != got {
+            return Err(format!("report: model {report:?}, library {got:?}"));
+        }
+        first_difference("output byte", &out_ours.cells, &out_theirs.cells)
+            .map_err(|e| format!("{e} (answers have {ANSWER_BYTES} bytes each)"))?;
+        state_difference(&ours, &theirs)?;
+        if input != run.input {
+            return Err("the input was written".to_string());
+        }
+        self.words.copy_from_slice(theirs.inner());
+        self.coverage.stop(report.stop);
+        self.coverage.events(&events);
+        Ok((report, out_theirs.inner()[..ANSWER_BYTES * report.answered].to_vec()))
+    }
+
+    fn serve(&mut self, miss: &Miss) -> Result<(), String> {
+        let lent = [miss.zero.bytes(), miss.other.bytes()];
+        let tables = [&lent[0][..], &lent[1][..]];
+        let (part, answer) = self.compare_serve(miss, tables)?;
+        self.counts.serves += 1;
+        let Some(ledger) = &mut self.ledger else { return Ok(()) };
+        self.counts.predicted += 1;
+        compare_ledger_serve(ledger, miss, tables, part, &answer)
+    }
+
+    /// Hand back, which has to leave all as it is, then the serve; what the library gave.
+    fn compare_serve(&mut self, miss: &Miss, tables: [&[u8]; 2]) -> Result<(Part, [u8; ANSWER_BYTES]), String> {
+        let [mut ours, mut theirs] = self.lent_words();
+        let part = model::hand_back(ours.inner(), miss.strand, miss.side, tables);
+        let got = library::hand_back(theirs.inner(), miss.strand, miss.side, tables);
+        if part != got {
+            return Err(format!("part: model {part:?}, library {got:?}"));
+        }
+        state_difference(&ours, &theirs).map_err(|e| format!("hand back: {e}"))?;
+        let (answer, events) = model::serve(ours.inner(), miss.strand, miss.side, tables);
+        let got = library::serve(theirs.inner(), miss.strand, miss.side, tables);
+        if answer != got {
+            return Err(format!("answer: model {answer:02x?}, library {got:02x?}"));
+        }
+        state_difference(&ours, &theirs)?;
+        if tables != [&miss.zero.bytes()[..], &miss.other.bytes()[..]] {
+            return Err("a table was written".to_string());
+        }
+        self.words.copy_from_slice(theirs.inner());
+        self.coverage.served(part.number, &answer, &events);
+        Ok((part, answer))
+    }
 }
 
 /// The ledger's answers to the commands that a run took, against the library's bytes.
@@ -216,6 +243,24 @@ fn compare_ledger(ledger: &mut Ledger, run: &Run, answers: &[u8], counts: &mut C
         }
         counts.predicted += 1;
         at += width(run.input[at]).expect("taken, so known");
+    }
+    Ok(())
+}
+
+/// The ledger's part and answer, against the library's.
+fn compare_ledger_serve(ledger: &mut Ledger, miss: &Miss, tables: [&[u8]; 2], part: Part, answer: &[u8; ANSWER_BYTES]) -> Result<(), String> {
+    let [zero, other] = tables;
+    let given = ledger.hands_back(miss.strand, miss.side, zero, other);
+    let got = match part.number {
+        0 => Ok(&tables[part.other as usize][part.start..part.start + part.length]),
+        number => Err(number),
+    };
+    if given != got {
+        return Err(format!("part: ledger {given:02x?}, library {got:02x?}"));
+    }
+    let given = ledger.serves(miss.strand, miss.side, zero, other, answer);
+    if given.as_ref() != Some(answer) {
+        return Err(format!("answer: ledger {given:02x?}, library {answer:02x?}"));
     }
     Ok(())
 }
@@ -233,60 +278,16 @@ fn compare_reset(length: usize, r: &mut Random) -> Result<(), String> {
     first_difference("reset word", &expected, &theirs.cells)
 }
 
-/// Runs a stream through all three.
+/// Takes a stream through all three.
 pub fn compare(stream: &Stream, coverage: &mut Coverage, counts: &mut Counts) -> Result<(), String> {
     let mut r = Random::new(stream.seed ^ 0x5151);
-    let mut words = stream.words.clone();
-    let mut ledger = (stream.start == Start::Reset).then(Ledger::reset);
+    let words = stream.words.clone();
+    let ledger = (stream.start == Start::Reset).then(Ledger::reset);
     compare_reset(words.len(), &mut r)?;
     coverage.start(stream.start, Model::from_words(&words).is_some());
     counts.streams += 1;
-    for (i, step) in stream.steps.iter().enumerate() {
-        match step {
-            Step::Run(run) => all_of_run(&mut words, run, &mut ledger, &mut r, coverage, counts).map_err(|e| format!("step {i}, a run: {e}"))?,
-            Step::Serve(miss) => all_of_serve(&mut words, miss, &mut ledger, &mut r, coverage, counts).map_err(|e| format!("step {i}, a serve: {e}"))?,
-        }
-        counts.states += 1;
-    }
-    Ok(())
-}
-
-type MaybeLedger = Option<Ledger>;
-
-fn all_of_run(
-    words: &mut Vec<u64>,
-    run: &Run,
-    ledger: &mut MaybeLedger,
-    r: &mut Random,
-    coverage: &mut Coverage,
-    counts: &mut Counts,
-) -> Result<(), String> {
-    let (report, answers) = compare_run(words, run, r, coverage)?;
-    counts.runs += 1;
-    counts.commands += report.answered as u64;
-    let mut at = 0;
-    for answer in answers.chunks(ANSWER_BYTES) {
-        coverage.answer(run.input[at], answer);
-        at += width(run.input[at]).expect("taken, so known");
-    }
-    ledger.as_mut().map_or(Ok(()), |ledger| compare_ledger(ledger, run, &answers, counts))
-}
-
-fn all_of_serve(
-    words: &mut Vec<u64>,
-    miss: &Miss,
-    ledger: &mut MaybeLedger,
-    r: &mut Random,
-    coverage: &mut Coverage,
-    counts: &mut Counts,
-) -> Result<(), String> {
-    let lent = [miss.zero.bytes(), miss.other.bytes()];
-    let tables = [&lent[0][..], &lent[1][..]];
-    let (part, answer) = compare_serve(words, miss, tables, r, coverage)?;
-    counts.serves += 1;
-    let Some(ledger) = ledger else { return Ok(()) };
-    counts.predicted += 1;
-    compare_ledger_serve(ledger, miss, tables, part, &answer)
+    let mut walk = Walk { words, ledger, r, coverage, counts };
+    stream.steps.iter().enumerate().try_for_each(|(i, step)| walk.step(step).map_err(|e| format!("step {i}, {e}")))
 }
 
 /// High and low bit of each field of an entry word, in the order of `Tte`.

@@ -1,7 +1,7 @@
 //! Random command streams and misses, dense in hard cases.
 use crate::command::{encode, Command};
 use crate::random::Random;
-use crate::tables::{Miss, Table, Tte};
+use crate::tables::{Miss, Table, TsbEntry};
 use t1mmu::numbers::{ADDRESS_MASK, MODE, PARTITION, PRIMARY_CONTEXT, SECONDARY_CONTEXT, TRANSLATION};
 use t1mmu::numbers::{ANSWER_BYTES, REGISTERS, SIDES, STRANDS};
 use t1mmu::numbers::{tsb_base_of, tsb_bytes, tsb_configuration_of, FAULT_ADDRESS, LOCKED, TAG_ACCESS, TSB_BASE, TSB_CONFIGURATION};
@@ -402,12 +402,12 @@ impl Scene {
 
     fn table(&self, r: &mut Random, made: &Made, length: usize) -> Table {
         // what fits at each other place tells of a wrong one
-        let everywhere = r.percent(60).then(|| Tte { tag: made.right_tag(), word: 1 << 63 | r.below(2) << 39 | 0x440 | made.code });
+        let everywhere = r.percent(60).then(|| TsbEntry { tag: made.right_tag(), word: 1 << 63 | r.below(2) << 39 | 0x440 | made.code });
         let entries = if r.percent(94) { vec![(made.at(), self.entry(r, made))] } else { Vec::new() };
         Table { length, everywhere, entries }
     }
 
-    fn entry(&self, r: &mut Random, made: &Made) -> Tte {
+    fn entry(&self, r: &mut Random, made: &Made) -> TsbEntry {
         let mut tag = made.right_tag();
         let mut word = self.word(r) & !15 | 1 << 63 | made.code;
         if made.code == 5 && r.percent(50) {
@@ -430,6 +430,6 @@ impl Scene {
             41 => (tag, word) = (tag.swap_bytes(), word.swap_bytes()),
             _ => {}
         }
-        Tte { tag, word }
+        TsbEntry { tag, word }
     }
 }

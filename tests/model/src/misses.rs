@@ -7,7 +7,7 @@ use crate::command::{decode, width};
 use crate::ledger::Ledger;
 use crate::library;
 use crate::model::{self, Model, Part, Report};
-use crate::tables::{Table, Tte};
+use crate::tables::{Table, TsbEntry};
 use crate::vectors::{bytes, hex, printed};
 use t1mmu::numbers::{ANSWER_BYTES, STATE_WORDS};
 
@@ -38,7 +38,7 @@ fn table<'a>(mut words: impl Iterator<Item = &'a str>) -> Table {
     let entry = |text: &str| {
         let (at, digits) = text.split_once(':').expect("byte:entry");
         let value = |part: &str| u64::from_str_radix(part, 16).expect("hexadecimal");
-        (number(Some(at)), Tte { tag: value(&digits[..16]), word: value(&digits[16..]) })
+        (number(Some(at)), TsbEntry { tag: value(&digits[..16]), word: value(&digits[16..]) })
     };
     Table { length, everywhere: None, entries: words.map(entry).collect() }
 }

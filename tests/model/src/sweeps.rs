@@ -6,7 +6,7 @@ use crate::compare::{Step, Stream};
 use crate::generate::Run;
 use crate::model::{Entry, Model};
 use crate::states::Start;
-use crate::tables::{Miss, Table, Tte};
+use crate::tables::{Miss, Table, TsbEntry};
 use t1mmu::numbers::{tsb_base_of, tsb_bytes, tsb_configuration_of};
 use t1mmu::numbers::{ADDRESS_MASK, MODE, PRIMARY_CONTEXT, SECONDARY_CONTEXT, TAG_ACCESS, TRANSLATION};
 use t1mmu::numbers::{ANSWER_BYTES, SLOTS, STATE_WORDS};
@@ -210,13 +210,13 @@ impl Asked {
         16 * ((MISSED >> by) as usize % (1 << (9 + self.n)))
     }
 
-    fn fitting(&self) -> Tte {
-        Tte { tag: self.context << 48 | MISSED >> 22, word: 1 << 63 | 0x5_5555_2440 | self.code }
+    fn fitting(&self) -> TsbEntry {
+        TsbEntry { tag: self.context << 48 | MISSED >> 22, word: 1 << 63 | 0x5_5555_2440 | self.code }
     }
 
     /// The table used with one entry and of one length; the other one of another.
-    fn miss(&self, tte: Tte, length: usize, unused: usize) -> Step {
-        let used = Table { length, everywhere: None, entries: vec![(self.at(), tte)] };
+    fn miss(&self, entry: TsbEntry, length: usize, unused: usize) -> Step {
+        let used = Table { length, everywhere: None, entries: vec![(self.at(), entry)] };
         let unused = Table { length: unused, everywhere: Some(self.fitting()), entries: Vec::new() };
         let (zero, other) = if self.context == 0 { (used, unused) } else { (unused, used) };
         Step::Serve(Miss { strand: self.strand, side: self.side, zero, other })
@@ -234,10 +234,10 @@ fn tsb_bits() -> impl Iterator<Item = Stream> {
     each.map(|(side, context, code)| {
         let asked = Asked { strand: 3, side, context, n: 0, code };
         let flipped = (0..128).map(|bit| {
-            let Tte { tag, word } = asked.fitting();
-            if bit < 64 { Tte { tag: tag ^ 1 << bit, word } } else { Tte { tag, word: word ^ 1 << (bit - 64) } }
+            let TsbEntry { tag, word } = asked.fitting();
+            if bit < 64 { TsbEntry { tag: tag ^ 1 << bit, word } } else { TsbEntry { tag, word: word ^ 1 << (bit - 64) } }
         });
-        asked.stream(7, [asked.fitting()].into_iter().chain(flipped).map(|tte| asked.miss(tte, tsb_bytes(0), 0)))
+        asked.stream(7, [asked.fitting()].into_iter().chain(flipped).map(|entry| asked.miss(entry, tsb_bytes(0), 0)))
     })
 }
 

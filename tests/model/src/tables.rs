@@ -3,7 +3,7 @@ use t1mmu::numbers::TSB_ENTRY_BYTES;
 
 /// Tag and word of a TSB entry.
 #[derive(Clone, Copy, Debug, PartialEq)]
-pub struct Tte {
+pub struct TsbEntry {
     pub tag: u64,
     pub word: u64,
 }
@@ -13,9 +13,9 @@ pub struct Tte {
 pub struct Table {
     pub length: usize,
     /// stands in every entry, its word's address raised by a page for each: no two entries are alike
-    pub everywhere: Option<Tte>,
+    pub everywhere: Option<TsbEntry>,
     /// by their byte in the table, over what stands everywhere
-    pub entries: Vec<(usize, Tte)>,
+    pub entries: Vec<(usize, TsbEntry)>,
 }
 
 /// A miss to be served: the operands of either call, and the two tables lent.
@@ -27,7 +27,7 @@ pub struct Miss {
     pub other: Table,
 }
 
-impl Tte {
+impl TsbEntry {
     pub fn bytes(self) -> [u8; TSB_ENTRY_BYTES] {
         (u128::from(self.tag) << 64 | u128::from(self.word)).to_be_bytes()
     }
@@ -37,16 +37,16 @@ impl Table {
     /// The bytes lent. What would stand past the length is cut off.
     pub fn bytes(&self) -> Vec<u8> {
         let mut bytes = vec![0; self.length];
-        if let Some(tte) = self.everywhere {
-            for (i, entry) in bytes.chunks_mut(TSB_ENTRY_BYTES).enumerate() {
-                let one = Tte { word: tte.word.wrapping_add((i as u64) << 13), ..tte };
-                entry.copy_from_slice(&one.bytes()[..entry.len()]);
+        if let Some(entry) = self.everywhere {
+            for (i, place) in bytes.chunks_mut(TSB_ENTRY_BYTES).enumerate() {
+                let one = TsbEntry { word: entry.word.wrapping_add((i as u64) << 13), ..entry };
+                place.copy_from_slice(&one.bytes()[..place.len()]);
             }
         }
-        for &(at, tte) in &self.entries {
+        for &(at, entry) in &self.entries {
             let end = (at + TSB_ENTRY_BYTES).min(self.length);
             if at < end {
-                bytes[at..end].copy_from_slice(&tte.bytes()[..end - at]);
+                bytes[at..end].copy_from_slice(&entry.bytes()[..end - at]);
             }
         }
         bytes
