@@ -251,7 +251,7 @@ struct t1mmu_report t1mmu_run(uint64_t *state, size_t words, const uint8_t *inpu
  * 16 * ((address / page size) mod 2^(9 + N)) of its table: at the ps0 pointer of command 0x09, less the table's address, which plays no part.
  * Tables are only read; they may be the same range, or overlap. A table of length 0 may be null.
  *
- * Either call asks whether the state is sound, at the cost of some two dozen hits and far above that of all else in it.
+ * Number 1, whether the state is sound, is asked at each call, at the cost of some two dozen hits: far more than all else in it.
  */
 
 /*
@@ -268,8 +268,8 @@ struct t1mmu_part t1mmu_hand_back(const uint64_t *state, size_t words, uint8_t s
  * insertion's: T1MMU_DONE, T1MMU_DISPLACED, or T1MMU_REFUSED with 11, 12 or 13, which are asked on a fit alone. Bytes that do not fit are
  * answered T1MMU_NOT_IN_TABLE. Refused before it looks at them: 1, 5, 6, 14, in this order, answered as T1MMU_REFUSED.
  *
- * Serving writes no register, is no lookup, and looks at no mode; but for an entry put in nothing changes outside the side's slots, and
- * unless one is put in nothing changes at all. (specs: servedOf)
+ * Serving writes no register, is no lookup, and looks at no mode. Where an entry goes in, slots of its side change and nothing else; where
+ * none does, nothing changes. (specs: servedOf)
  *
  * What a caller does: an access is answered with trap 0x64 (side 0) or 0x68 (side 1); it serves the strand and side, and on T1MMU_DONE or
  * T1MMU_DISPLACED sends the access again; on T1MMU_NOT_IN_TABLE it hands the trap to the guest. After a real miss (0x3E, 0x3F) tag access has

@@ -1,7 +1,7 @@
 //! The translation unit of an UltraSPARC T1 core, over the proved library `libt1mmu.a`.
 //!
 //! Every call is proved equal to a definition in `crates/machine/specs`, and again to a second text of it; this crate adds types and names, and lends slices.
-//! The proof asks that the ranges lent are disjoint and may be read and written: `&[u8]` and `&mut [u8]` say just that.
+//! The proof asks that the ranges lent may be read, and that those written overlap no other: `&[u8]` and `&mut [u8]` say just that.
 //! [`numbers`] has what commands and answers are made of; [`sys`] has the C calls themselves.
 
 use std::fmt;

@@ -1,7 +1,7 @@
 //! Random command streams and misses, dense in hard cases.
 use crate::command::{encode, Command};
 use crate::random::Random;
-use crate::tables::{Miss, Table, TsbEntry};
+use crate::tables::{place_of, tag_for, Miss, Table, TsbEntry};
 use t1mmu::numbers::{ADDRESS_MASK, MODE, PARTITION, PRIMARY_CONTEXT, SECONDARY_CONTEXT, TRANSLATION};
 use t1mmu::numbers::{ANSWER_BYTES, REGISTERS, SIDES, STRANDS};
 use t1mmu::numbers::{tsb_base_of, tsb_bytes, tsb_configuration_of, FAULT_ADDRESS, LOCKED, TAG_ACCESS, TSB_BASE, TSB_CONFIGURATION};
@@ -320,18 +320,10 @@ struct Made {
 }
 
 impl Made {
-    fn kind(&self) -> u8 {
-        (self.side == 1) as u8
-    }
-
-    /// The TSB entry's place by the registers.
-    fn at(&self) -> usize {
-        let by = [13, 16, 0, 22, 0, 28][self.code as usize];
-        16 * ((self.tag >> by) as usize % (1 << (9 + self.n)))
-    }
-
-    fn right_tag(&self) -> u64 {
-        self.tag % 0x2000 << 48 | self.tag >> 22
+    /// An access of the page by the primary context.
+    fn access(&self, r: &mut Random) -> Command {
+        let (kind, address) = ((self.side == 1) as u8, (self.tag & !0x1FFF) + r.below(0x800) * 4);
+        Command::Access { strand: self.strand, kind, selector: 0, size: 2, address }
     }
 }
 
@@ -355,14 +347,14 @@ impl Scene {
         }
         let mut after = Vec::new();
         if r.percent(70) {
-            after.push(Command::Access { strand, kind: made.kind(), selector: 0, size: 2, address: (tag & !0x1FFF) + r.below(0x800) * 4 });
+            after.push(made.access(r));
         }
         (0..r.below(4)).for_each(|_| self.add(r, &mut after));
         let run = |commands: Vec<Command>| Run { room: ANSWER_BYTES * commands.len(), input: commands.into_iter().flat_map(encode).collect() };
         (run(commands), self.tables(r, &made), run(after))
     }
 
-    /// Base and configuration of the table used, mostly those of ps1 and now and then those of the other table.
+    /// N and sizes of the table used; mostly ps1's N too, and now and then that of the other table.
     fn tsb_registers(&self, r: &mut Random, made: &Made) -> Vec<Command> {
         let (strand, side, nonzero) = (made.strand, made.side % 2, made.tag % 0x2000 != 0);
         let write = |register, value| Command::Write { strand, register, value };
@@ -378,13 +370,12 @@ impl Scene {
         all
     }
 
-    /// An access of the page by the primary context, which leaves it in tag access unless it hits.
+    /// An access of the page, which leaves it in tag access unless it hits.
     fn missing_access(&self, r: &mut Random, made: &Made, virtually: bool, all: &mut Vec<Command>) {
         let context = if virtually { made.tag % 0x2000 } else { r.pick(&self.contexts) };
         let values = [(MODE, r.below(2)), (TRANSLATION, if virtually { 3 } else { 0 }), (ADDRESS_MASK, 0), (PRIMARY_CONTEXT, context)];
         all.extend(values.map(|(register, value)| Command::Write { strand: made.strand, register, value }));
-        let address = (made.tag & !0x1FFF) + r.below(0x800) * 4;
-        all.push(Command::Access { strand: made.strand, kind: made.kind(), selector: 0, size: 2, address });
+        all.push(made.access(r));
     }
 
     /// Two tables: of the one used mostly the right length, with the entry that fits or with one field of it broken.
@@ -402,13 +393,13 @@ impl Scene {
 
     fn table(&self, r: &mut Random, made: &Made, length: usize) -> Table {
         // what fits at each other place tells of a wrong one
-        let everywhere = r.percent(60).then(|| TsbEntry { tag: made.right_tag(), word: 1 << 63 | r.below(2) << 39 | 0x440 | made.code });
-        let entries = if r.percent(94) { vec![(made.at(), self.entry(r, made))] } else { Vec::new() };
+        let everywhere = r.percent(60).then(|| TsbEntry { tag: tag_for(made.tag), word: 1 << 63 | r.below(2) << 39 | 0x440 | made.code });
+        let entries = if r.percent(94) { vec![(place_of(made.tag, made.n, made.code), self.entry(r, made))] } else { Vec::new() };
         Table { length, everywhere, entries }
     }
 
     fn entry(&self, r: &mut Random, made: &Made) -> TsbEntry {
-        let mut tag = made.right_tag();
+        let mut tag = tag_for(made.tag);
         let mut word = self.word(r) & !15 | 1 << 63 | made.code;
         if made.code == 5 && r.percent(50) {
             tag ^= r.below(64);

@@ -6,7 +6,7 @@ use crate::compare::{Step, Stream};
 use crate::generate::Run;
 use crate::model::{Entry, Model};
 use crate::states::Start;
-use crate::tables::{Miss, Table, TsbEntry};
+use crate::tables::{place_of, tag_for, Miss, Table, TsbEntry};
 use t1mmu::numbers::{tsb_base_of, tsb_bytes, tsb_configuration_of};
 use t1mmu::numbers::{ADDRESS_MASK, MODE, PRIMARY_CONTEXT, SECONDARY_CONTEXT, TAG_ACCESS, TRANSLATION};
 use t1mmu::numbers::{ANSWER_BYTES, SLOTS, STATE_WORDS};
@@ -21,7 +21,9 @@ fn from_reset(seed: u64, commands: Vec<Command>) -> Stream {
 
 fn from_words(seed: u64, start: Start, words: Vec<u64>) -> Stream {
     let input = [Command::Read { strand: 0, register: MODE }, Command::DemapAll { strand: 0, side: 1 }].into_iter().flat_map(encode).collect();
-    Stream { seed, start, words, steps: vec![Step::Run(Run { input, room: 2 * ANSWER_BYTES + 12 })] }
+    // a sound state gets to the length of its table, which is refused with 14
+    let miss = Miss { strand: 0, side: 1, zero: Table::default(), other: Table::default() };
+    Stream { seed, start, words, steps: vec![Step::Serve(miss), Step::Run(Run { input, room: 2 * ANSWER_BYTES + 12 })] }
 }
 
 /// Both sides full: all sizes, partitions and contexts, real and virtual, locked and not.
@@ -205,18 +207,13 @@ impl Asked {
         Run { room: ANSWER_BYTES * commands.len(), input: commands.into_iter().flat_map(encode).collect() }
     }
 
-    fn at(&self) -> usize {
-        let by = [13, 16, 0, 22, 0, 28][self.code as usize];
-        16 * ((MISSED >> by) as usize % (1 << (9 + self.n)))
-    }
-
     fn fitting(&self) -> TsbEntry {
-        TsbEntry { tag: self.context << 48 | MISSED >> 22, word: 1 << 63 | 0x5_5555_2440 | self.code }
+        TsbEntry { tag: tag_for(MISSED + self.context), word: 1 << 63 | 0x5_5555_2440 | self.code }
     }
 
     /// The table used with one entry and of one length; the other one of another.
     fn miss(&self, entry: TsbEntry, length: usize, unused: usize) -> Step {
-        let used = Table { length, everywhere: None, entries: vec![(self.at(), entry)] };
+        let used = Table { length, everywhere: None, entries: vec![(place_of(MISSED, self.n, self.code), entry)] };
         let unused = Table { length: unused, everywhere: Some(self.fitting()), entries: Vec::new() };
         let (zero, other) = if self.context == 0 { (used, unused) } else { (unused, used) };
         Step::Serve(Miss { strand: self.strand, side: self.side, zero, other })

@@ -27,6 +27,16 @@ pub struct Miss {
     pub other: Table,
 }
 
+/// Where the entry of a tag access stands, in bytes, and the tag that fits it exactly.
+pub fn place_of(tag_access: u64, n: u32, code: u64) -> usize {
+    let shift = [13, 16, 0, 22, 0, 28][code as usize];
+    TSB_ENTRY_BYTES * ((tag_access >> shift) as usize % (1 << (9 + n)))
+}
+
+pub fn tag_for(tag_access: u64) -> u64 {
+    tag_access % 0x2000 << 48 | tag_access >> 22
+}
+
 impl TsbEntry {
     pub fn bytes(self) -> [u8; TSB_ENTRY_BYTES] {
         (u128::from(self.tag) << 64 | u128::from(self.word)).to_be_bytes()
