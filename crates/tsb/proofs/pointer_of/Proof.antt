@@ -6,37 +6,10 @@ use Rattle.tsb.proofs.pointer_of.Tie as tie
 
 returns : tie.Need-returns
 returns c =
-    let code = c .before .before in
-    let base = code .before .before in
-    let context = base .before .before in
-    c .tsb-pointer .ensures ∙ rw (
-      c .before .tag-address .ensures,
-      code .size-code .ensures,
-      code .before .read-register2 .ensures,
-      base .read-register .ensures,
-      base .before .other-set .ensures .0,
-      context .tag-context .ensures,
-      context .before .tag-of .ensures,
-    )
+    let address = c .before in
+    let code = address .before in
+    c .tsb-pointer .ensures ∙ rw (address .miss-address .ensures, code .tsb-code .ensures, code .before .tsb-base .ensures)
 
 pub pointer-of-spec : {M : Type 1} → statement M
 pointer-of-spec =
-    tie.close
-    (tie.spec
-    (λ c κs. search needs)
-    (λ c κs. search needs)
-    (λ c κs. search needs)
-    (λ c. search needs)
-    (λ c. search needs)
-    (λ c. search needs)
-    (λ c. search needs)
-    (λ c. search needs)
-    (λ c κs. search needs)
-    (λ c. search needs)
-    (λ c. search needs)
-    (λ c. search needs)
-    (λ c κs. search needs)
-    (λ c κs. search needs)
-    (λ c κs. search needs)
-    (λ c κs. search needs)
-    returns)
+    tie.close (tie.spec (λ c κs. search needs) (λ c κs. search needs) (λ c κs. search needs) (λ c κs. search needs) returns)
