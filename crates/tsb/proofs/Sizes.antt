@@ -13,13 +13,17 @@ use Rattle.machine.specs.Tsb.{tsbOffset}
 pub tsb-entries : (n : ℕ) → n < 16 → (512 * 2 ^ n) % 2 ^ 64 ≡ 2 ^ (9 + n)
 tsb-entries n h = shl-exact 10 n 64 (lit< tt) (omega arith) ∙ sym (pow-add 2 9 n)
 
--- an offset lies within its TSB
-pub offset-below : (n code address : ℕ) → tsbOffset n code address < 2 ^ (13 + n)
+-- an entry lies within its TSB
+pub entry-within : (n code address : ℕ) → tsbOffset n code address + 16 ≤ 16 * 2 ^ (9 + n)
 unfolding tsbOffset
+entry-within n code address = omega (arith, mod-lt (address / pageSize code) (pow-pos (9 + n)))
+
+-- so its offset lies below the TSB's length
+pub offset-below : (n code address : ℕ) → tsbOffset n code address < 2 ^ (13 + n)
 offset-below n code address =
     let k : 13 + n ≡ 4 + (9 + n) = omega arith in
     let e : 2 ^ (13 + n) ≡ 16 * 2 ^ (9 + n) = ap (λ (i : ℕ). 2 ^ i) k ∙ pow-add 2 4 (9 + n) in
-    rw e (omega (arith, mod-lt (address / pageSize code) (pow-pos (9 + n))))
+    omega (arith, entry-within n code address)
 
 -- a multiple of 2^s and what is below 2^s
 pub aligned-sum : (base s o : ℕ) → s ≤ 64 → base < 2 ^ 64 → o < 2 ^ s → base / 2 ^ s * 2 ^ s + o < 2 ^ 64

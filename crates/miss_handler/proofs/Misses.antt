@@ -1,0 +1,52 @@
+-- What a miss that passed its questions has: its operands are within the state, and its entry within the table used.
+-- Assumes nothing.
+use Prim.Native.Nat.{ℕ, _+_, _*_, _^_, _<_, _≤_}
+use mathlib.Core.Path.{_≡_, refl}
+use mathlib.Core.Bool.{true}
+use mathlib.Core.List.{List}
+use native.Mathlib.Omega.{arith}
+use borrow.Author.Tests.{eqb-true, ltb-true}
+use lib.ListN.{length, take, drop}
+use lib.Pow.{pow-mono}
+use Rattle.laws.specs.Tests.{allOf}
+use Rattle.laws.proofs.Bools.{by-test, and-left, and-right}
+use Rattle.machine.specs.State.{counts, stateIn, wordsSound}
+use Rattle.machine.specs.Stream.{Bytes}
+use Rattle.machine.specs.Serve.{isZeroContext, tableUsed, entryStart, askedTable, missVerdict, partBy, partBytes}
+use Rattle.machine.specs.declared.Refusal.the-variants as refusal
+use Rattle.machine.specs.declared.Verdict.the-variants.{Passed, Refused}
+use Rattle.machine.proofs.State.{ask-fine, sound-words}
+use Rattle.tsb.proofs.Sizes.{entry-within}
+use Rattle.questions.proofs.Asks.{Left, every}
+use Rattle.miss_handler.specs.Ready.{Ready}
+
+ruleset conj = (and-left, and-right, eqb-true, ltb-true)
+
+-- a table's length fits a word
+pub table-small : (n : ℕ) → n < 16 → 16 * 2 ^ (9 + n) < 2 ^ 64
+table-small n h = omega (arith, pow-mono {i = 9 + n} {j = 24} (omega arith))
+
+module _ (words : List ℕ) (strand side : ℕ) (ofZero ofOther : Bytes) where
+  -- on sound words the three questions of the table decide
+  pub sound-asked : wordsSound counts words ≡ true
+      → Left (missVerdict counts words strand side ofZero ofOther) (askedTable (stateIn words) strand side ofZero ofOther)
+  unfolding missVerdict
+  sound-asked e = rw e (every _)
+
+  pub miss-ready : missVerdict counts words strand side ofZero ofOther ≡ Passed → Ready words strand side ofZero ofOther
+  unfolding missVerdict askedTable allOf
+  miss-ready h = by-test (wordsSound counts words)
+      (λ e.
+      let (s, l) = sound-words counts words e in
+      let q = ask-fine (askedTable (stateIn words) strand side ofZero ofOther) (rw e at h) in
+      record { lent = l; sound = s; strands = search conj; sides = search conj; table = search conj })
+      (λ e. let r : Refused refusal.State ≡ Passed = rw e at h in absurd (let z : _≡_ {A = ℕ} 0 1 = cc in omega arith))
+
+  pub entry-in-table : Ready words strand side ofZero ofOther
+      → entryStart (stateIn words .registers) strand side + 16 ≤ length (tableUsed (stateIn words .registers) strand side ofZero ofOther)
+  entry-in-table r = rw (r .table) (entry-within _ _ _)
+
+-- the part that is handed back of a miss that passed
+pub part-entry : (file : List ℕ) (strand side : ℕ) (ofZero ofOther : Bytes)
+    → partBytes (partBy Passed file strand side) ofZero ofOther ≡ take 16 (drop (entryStart file strand side) (tableUsed file strand side ofZero ofOther))
+part-entry file strand side ofZero ofOther = by-test (isZeroContext file strand side) (λ e. rw e) (λ e. rw e)
