@@ -1,21 +1,26 @@
 -- What a miss that passed its questions has: its operands are within the state, and its entry within the table used.
 -- Assumes nothing.
 use Prim.Native.Nat.{ℕ, _+_, _*_, _^_, _<_, _≤_}
-use mathlib.Core.Path.{_≡_, refl}
+use mathlib.Core.Path.{_≡_, _∙_}
 use mathlib.Core.Bool.{true}
 use mathlib.Core.List.{List}
+use native.Mathlib.Nat.{add-assoc}
 use native.Mathlib.Omega.{arith}
 use borrow.Author.Tests.{eqb-true, ltb-true}
 use lib.ListN.{length, take, drop}
 use lib.Pow.{pow-mono}
+use lib.Seq.{getD-take, getD-drop}
 use Rattle.laws.specs.Tests.{allOf}
 use Rattle.laws.proofs.Bools.{by-test, and-left, and-right}
 use Rattle.machine.specs.State.{counts, stateIn, wordsSound}
-use Rattle.machine.specs.Stream.{Bytes}
+use Rattle.machine.specs.Stream.{Bytes, byte, eight}
 use Rattle.machine.specs.Serve.{isZeroContext, tableUsed, entryStart, askedTable, missVerdict, partBy, partBytes}
+use Rattle.machine.specs.Serve.{serveFrom, serve, servedAs, servedOf}
+use Rattle.machine.specs.declared.Refusal.{Refusal}
 use Rattle.machine.specs.declared.Refusal.the-variants as refusal
+use Rattle.machine.specs.declared.Answer.the-variants as answer
 use Rattle.machine.specs.declared.Verdict.the-variants.{Passed, Refused}
-use Rattle.machine.proofs.State.{ask-fine, sound-words}
+use Rattle.machine.proofs.State.{ask-fine, encode-state, sound-words}
 use Rattle.tsb.proofs.Sizes.{entry-within}
 use Rattle.questions.proofs.Asks.{Left, every}
 use Rattle.miss_handler.specs.Ready.{Ready}
@@ -46,7 +51,44 @@ module _ (words : List ℕ) (strand side : ℕ) (ofZero ofOther : Bytes) where
       → entryStart (stateIn words .registers) strand side + 16 ≤ length (tableUsed (stateIn words .registers) strand side ofZero ofOther)
   entry-in-table r = rw (r .table) (entry-within _ _ _)
 
+  -- a refusal leaves the words
+  pub served-refused : {r : Refusal} → missVerdict counts words strand side ofZero ofOther ≡ Refused r
+      → servedOf counts words strand side ofZero ofOther ≡ record { words = words; answer = answer.Refused r }
+  unfolding missVerdict servedOf serve
+  served-refused {r} h = by-test (wordsSound counts words)
+      (λ e. rw (e, rw e at h, encode-state counts words (sound-words counts words e .1)))
+      (λ e.
+      let same : Refused refusal.State ≡ Refused r = rw e at h in
+      let s : refusal.State ≡ r = cc in
+      rw (e, ← s))
+
+  -- else the entry decides
+  pub served-passed : missVerdict counts words strand side ofZero ofOther ≡ Passed
+      → servedOf counts words strand side ofZero ofOther
+      ≡ servedAs (serveFrom (stateIn words) strand side (tableUsed (stateIn words .registers) strand side ofZero ofOther))
+  unfolding missVerdict servedOf serve
+  served-passed h = by-test (wordsSound counts words)
+      (λ e. rw (e, rw e at h))
+      (λ e. let r : Refused refusal.State ≡ Passed = rw e at h in absurd (let z : _≡_ {A = ℕ} 0 1 = cc in omega arith))
+
 -- the part that is handed back of a miss that passed
 pub part-entry : (file : List ℕ) (strand side : ℕ) (ofZero ofOther : Bytes)
     → partBytes (partBy Passed file strand side) ofZero ofOther ≡ take 16 (drop (entryStart file strand side) (tableUsed file strand side ofZero ofOther))
 part-entry file strand side ofZero ofOther = by-test (isZeroContext file strand side) (λ e. rw e) (λ e. rw e)
+
+-- eight bytes of an entry are read in it as in its table
+pub entry-eight : (table : Bytes) (start i : ℕ) → i ≤ 8 → eight (take 16 (drop start table)) i ≡ eight table (start + i)
+unfolding eight
+entry-eight table start i h =
+    let at : (k : ℕ) → k < 16 → byte (take 16 (drop start table)) k ≡ byte table (start + k) =
+    λ k l. getD-take 16 (drop start table) k 0 l ∙ getD-drop start table k 0 in
+    rw (
+      at i (omega arith),
+      at (i + 1) (omega arith),
+      at (i + 2) (omega arith),
+      at (i + 2 + 1) (omega arith),
+      at (i + 4) (omega arith),
+      at (i + 4 + 1) (omega arith),
+      at (i + 4 + 2) (omega arith),
+      at (i + 4 + 2 + 1) (omega arith),
+    ) (simp add-assoc)

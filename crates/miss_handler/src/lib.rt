@@ -3,7 +3,7 @@ ghost use mathlib.Core.Path.{_≡_};
 ghost use mathlib.Core.Bool.{cond};
 ghost use Prim.Native.Nat.{_%_, _^_, _<_};
 ghost use lib.Dec.{eqb};
-ghost use lib.ListN.{take, drop};
+ghost use lib.ListN.{length, take, drop};
 ghost use Rattle.machine.specs.Words.{bits};
 ghost use Rattle.machine.specs.State.{counts, stateIn};
 ghost use Rattle.machine.specs.Serve.{tableUsed, tableN, tableLength, entryStart, missVerdict, partOf, partBytes};
@@ -78,11 +78,12 @@ fn ask_miss<'a>(state: &[u64], strand: u8, side: u8, zero: &'a [u8], other: &'a 
 
 // ---- handing back
 
-// The 16 bytes, as a part of the table used.
+// The 16 bytes of a miss that passed: a part of the table used.
 fn entry_of<'a>(state: &[u64], strand: u8, side: u8, zero: &'a [u8], other: &'a [u8]) -> &'a [u8]
     requires { ⌜ Ready (now state) strand side (now zero) (now other) ⌝ }
-    ensures { λ r. ⌜ now r ≡ take 16 (drop (entryStart (stateIn (now (state .entry)) .registers) strand side)
+    ensures bytes { λ r. ⌜ now r ≡ take 16 (drop (entryStart (stateIn (now (state .entry)) .registers) strand side)
         (tableUsed (stateIn (now (state .entry)) .registers) strand side (now (zero .entry)) (now (other .entry)))) ⌝ }
+    ensures count { λ r. ⌜ length (now r) ≡ 16 ⌝ }
 {
     let table = table_used(state, strand, side, zero, other);
     let start = entry_start(state, strand, side);

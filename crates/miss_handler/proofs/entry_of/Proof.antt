@@ -3,7 +3,7 @@ use Prim.Native.Nat.{_+_, _-_, _≤_}
 use mathlib.Core.Path.{_≡_}
 use native.Mathlib.Omega.{arith}
 use borrow.Author.Needs.{needs}
-use lib.ListN.{length}
+use lib.ListN.{length, length-take, length-drop}
 use Rattle.miss_handler.proofs.Misses.{entry-in-table}
 use Rattle.miss_handler.proofs.entry_of.Statement.{statement}
 use Rattle.miss_handler.proofs.entry_of.Tie as tie
@@ -17,7 +17,7 @@ returns : tie.Need-returns
 returns c =
     let start = c .before in
     let k : start .entry-start .result + 16 - start .entry-start .result ≡ 16 = omega arith in
-    rw (k, start .entry-start .ensures, start .before .table-used .ensures)
+    (rw (k, start .entry-start .ensures, start .before .table-used .ensures), simp (length-take, length-drop) (omega (arith, within start)))
 
 pub entry-of-spec : {M : Type 1} → statement M
 entry-of-spec =

@@ -17,7 +17,7 @@ returns-2 : tie.Need-returns-2
 unfolding partOf
 returns-2 c =
     let passed = c .before in
-    rw (sym (passed .before .before .ask-miss .ensures) ∙ passed .enum-told2 .given .1, part-entry) (c .entry-of .ensures)
+    rw (sym (passed .before .before .ask-miss .ensures) ∙ passed .enum-told2 .given .1, part-entry) (c .entry-of .ensures .0)
 
 pub hand-back-spec : {M : Type 1} → statement M
 hand-back-spec =
