@@ -1,10 +1,10 @@
 -- What a miss that passed its questions has: its operands are within the state, and its entry within the table used.
 -- Assumes nothing.
 use Prim.Native.Nat.{ℕ, _+_, _*_, _^_, _<_, _≤_}
-use mathlib.Core.Path.{_≡_, _∙_}
+use mathlib.Core.Path.{_≡_, ap, _∙_}
 use mathlib.Core.Bool.{true}
 use mathlib.Core.List.{List}
-use native.Mathlib.Nat.{add-assoc}
+use native.Mathlib.Nat.{add-zero, add-assoc}
 use native.Mathlib.Omega.{arith}
 use borrow.Author.Tests.{eqb-true, ltb-true}
 use lib.ListN.{length, take, drop}
@@ -12,10 +12,10 @@ use lib.Pow.{pow-mono}
 use lib.Seq.{getD-take, getD-drop}
 use Rattle.laws.specs.Tests.{allOf}
 use Rattle.laws.proofs.Bools.{by-test, and-left, and-right}
-use Rattle.machine.specs.State.{counts, stateIn, wordsSound}
+use Rattle.machine.specs.State.{counts, State, stateIn, wordsSound}
 use Rattle.machine.specs.Stream.{Bytes, byte, eight}
 use Rattle.machine.specs.Serve.{isZeroContext, tableUsed, entryStart, askedTable, missVerdict, partBy, partBytes}
-use Rattle.machine.specs.Serve.{serveFrom, serve, servedAs, servedOf}
+use Rattle.machine.specs.Serve.{serveEntry, serve, servedAs, servedOf}
 use Rattle.machine.specs.declared.Refusal.{Refusal}
 use Rattle.machine.specs.declared.Refusal.the-variants as refusal
 use Rattle.machine.specs.declared.Answer.the-variants as answer
@@ -30,6 +30,26 @@ ruleset conj = (and-left, and-right, eqb-true, ltb-true)
 -- a table's length fits a word
 pub table-small : (n : ℕ) → n < 16 → 16 * 2 ^ (9 + n) < 2 ^ 64
 table-small n h = omega (arith, pow-mono {i = 9 + n} {j = 24} (omega arith))
+
+-- eight bytes of an entry are read in it as in its table
+entry-eight : (table : Bytes) (start i : ℕ) → i ≤ 8 → eight (take 16 (drop start table)) i ≡ eight table (start + i)
+unfolding eight
+entry-eight table start i h =
+    let at : (k : ℕ) → k < 16 → byte (take 16 (drop start table)) k ≡ byte table (start + k) =
+    λ k l. getD-take 16 (drop start table) k 0 l ∙ getD-drop start table k 0 in
+    rw (
+      at i (omega arith),
+      at (i + 1) (omega arith),
+      at (i + 2) (omega arith),
+      at (i + 2 + 1) (omega arith),
+      at (i + 4) (omega arith),
+      at (i + 4 + 1) (omega arith),
+      at (i + 4 + 2) (omega arith),
+      at (i + 4 + 2 + 1) (omega arith),
+    ) (simp add-assoc)
+
+entry-tag : (table : Bytes) (start : ℕ) → eight (take 16 (drop start table)) 0 ≡ eight table start
+entry-tag table start = entry-eight table start 0 (omega arith) ∙ ap (eight table) (add-zero start)
 
 module _ (words : List ℕ) (strand side : ℕ) (ofZero ofOther : Bytes) where
   -- on sound words the three questions of the table decide
@@ -62,33 +82,17 @@ module _ (words : List ℕ) (strand side : ℕ) (ofZero ofOther : Bytes) where
       let s : refusal.State ≡ r = cc in
       rw (e, ← s))
 
-  -- else the entry decides
-  pub served-passed : missVerdict counts words strand side ofZero ofOther ≡ Passed
-      → servedOf counts words strand side ofZero ofOther
-      ≡ servedAs (serveFrom (stateIn words) strand side (tableUsed (stateIn words .registers) strand side ofZero ofOther))
+  -- else the entry decides: its tag, then its word
+  pub served-passed : missVerdict counts words strand side ofZero ofOther ≡ Passed →
+      let u : State = stateIn words in
+      let entry : Bytes = take 16 (drop (entryStart (u .registers) strand side) (tableUsed (u .registers) strand side ofZero ofOther)) in
+      servedOf counts words strand side ofZero ofOther ≡ servedAs (serveEntry u strand side (eight entry 0) (eight entry 8))
   unfolding missVerdict servedOf serve
   served-passed h = by-test (wordsSound counts words)
-      (λ e. rw (e, rw e at h))
+      (λ e. rw (e, rw e at h, entry-tag, entry-eight _ _ 8 (omega arith)))
       (λ e. let r : Refused refusal.State ≡ Passed = rw e at h in absurd (let z : _≡_ {A = ℕ} 0 1 = cc in omega arith))
 
 -- the part that is handed back of a miss that passed
 pub part-entry : (file : List ℕ) (strand side : ℕ) (ofZero ofOther : Bytes)
     → partBytes (partBy Passed file strand side) ofZero ofOther ≡ take 16 (drop (entryStart file strand side) (tableUsed file strand side ofZero ofOther))
 part-entry file strand side ofZero ofOther = by-test (isZeroContext file strand side) (λ e. rw e) (λ e. rw e)
-
--- eight bytes of an entry are read in it as in its table
-pub entry-eight : (table : Bytes) (start i : ℕ) → i ≤ 8 → eight (take 16 (drop start table)) i ≡ eight table (start + i)
-unfolding eight
-entry-eight table start i h =
-    let at : (k : ℕ) → k < 16 → byte (take 16 (drop start table)) k ≡ byte table (start + k) =
-    λ k l. getD-take 16 (drop start table) k 0 l ∙ getD-drop start table k 0 in
-    rw (
-      at i (omega arith),
-      at (i + 1) (omega arith),
-      at (i + 2) (omega arith),
-      at (i + 2 + 1) (omega arith),
-      at (i + 4) (omega arith),
-      at (i + 4 + 1) (omega arith),
-      at (i + 4 + 2) (omega arith),
-      at (i + 4 + 2 + 1) (omega arith),
-    ) (simp add-assoc)

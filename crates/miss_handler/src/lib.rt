@@ -7,9 +7,10 @@ ghost use lib.ListN.{length, take, drop};
 ghost use Rattle.machine.specs.Words.{bits};
 ghost use Rattle.machine.specs.State.{counts, stateIn};
 ghost use Rattle.machine.specs.Serve.{tableUsed, tableN, tableLength, entryStart, missVerdict, partOf, partBytes};
-ghost use Rattle.machine.specs.Serve.{tagFits, wordFits, entryFits};
-ghost use Rattle.state.specs.Calls.{Lent};
+ghost use Rattle.machine.specs.Serve.{tagFits, wordFits, entryFits, serveEntry, servedOf};
+ghost use Rattle.state.specs.Calls.{Lent, SoundIn, Did};
 ghost use Rattle.miss_handler.specs.Ready.{Ready};
+use machine::Answer;
 use machine::Part;
 use machine::Refusal;
 use machine::Verdict;
@@ -166,4 +167,34 @@ fn entry_fits(state: &[u64], strand: u8, side: u8, tag: u64, word: u64) -> bool
     let context = tsb::miss_context(state, strand, side);
     let address = tsb::miss_address(state, strand, side);
     tag_fits(code, context, address, tag) && word_fits(code, word)
+}
+
+// ---- serving
+
+// An entry goes in, unlocked and virtual, where it fits.
+fn serve_entry(state: &mut [u64], strand: u8, side: u8, tag: u64, word: u64) -> Answer
+    requires { ⌜ Lent (now state) × SoundIn (now state) × (strand < 4) × (side < 2) ⌝ }
+    ensures { λ r. ⌜ Did (now (state .exit)) r
+        (serveEntry (stateIn (now (state .entry))) strand side tag word) ⌝ }
+{
+    if !entry_fits(state, strand, side, tag, word) {
+        return Answer::NotInTable;
+    }
+    mmu::insert(state, strand, side, 0, word)
+}
+
+// Serves a miss. A refusal changes nothing.
+pub fn serve<'a>(state: &mut [u64], strand: u8, side: u8, zero: &'a [u8], other: &'a [u8]) -> Answer
+    ensures words { λ r. ⌜ now (state .exit) ≡
+        servedOf counts (now (state .entry)) strand side (now (zero .entry)) (now (other .entry)) .words ⌝ }
+    ensures answer { λ r. ⌜ r ≡
+        servedOf counts (now (state .entry)) strand side (now (zero .entry)) (now (other .entry)) .answer ⌝ }
+{
+    if let Verdict::Refused(refusal) = ask_miss(state, strand, side, zero, other) {
+        return Answer::Refused(refusal);
+    }
+    let entry = entry_of(state, strand, side, zero, other);
+    let tag = wire::eight_bytes(entry, 0);
+    let word = wire::eight_bytes(entry, 8);
+    serve_entry(state, strand, side, tag, word)
 }
