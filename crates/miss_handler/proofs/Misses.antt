@@ -1,4 +1,4 @@
--- What a miss that passed its questions has: its operands are within the state, and its entry within the table used.
+-- What the verdict on a miss comes to: where it passed, the entry lies within the table used, is handed back and decides; a refusal changes nothing.
 -- Assumes nothing.
 use Prim.Native.Nat.{ℕ, _+_, _*_, _^_, _<_, _≤_}
 use mathlib.Core.Path.{_≡_, ap, _∙_}
@@ -12,7 +12,7 @@ use lib.Pow.{pow-mono}
 use lib.Seq.{getD-take, getD-drop}
 use Rattle.laws.specs.Tests.{allOf}
 use Rattle.laws.proofs.Bools.{by-test, and-left, and-right}
-use Rattle.machine.specs.State.{counts, State, stateIn, wordsSound}
+use Rattle.machine.specs.State.{counts, stateIn, wordsSound}
 use Rattle.machine.specs.Stream.{Bytes, byte, eight}
 use Rattle.machine.specs.Serve.{isZeroContext, tableUsed, entryStart, askedTable, missVerdict, partBy, partBytes}
 use Rattle.machine.specs.Serve.{serveEntry, serve, servedAs, servedOf}
@@ -23,7 +23,7 @@ use Rattle.machine.specs.declared.Verdict.the-variants.{Passed, Refused}
 use Rattle.machine.proofs.State.{ask-fine, encode-state, sound-words}
 use Rattle.tsb.proofs.Sizes.{entry-within}
 use Rattle.questions.proofs.Asks.{Left, every}
-use Rattle.miss_handler.specs.Ready.{Ready}
+use Rattle.miss_handler.specs.Ready.{Ready, entryBytes}
 
 ruleset conj = (and-left, and-right, eqb-true, ltb-true)
 
@@ -58,14 +58,19 @@ module _ (words : List ℕ) (strand side : ℕ) (ofZero ofOther : Bytes) where
   unfolding missVerdict
   sound-asked e = rw e (every _)
 
+  passed-sound : missVerdict counts words strand side ofZero ofOther ≡ Passed → wordsSound counts words ≡ true
+  unfolding missVerdict
+  passed-sound h = by-test (wordsSound counts words)
+      (λ e. e)
+      (λ e. let r : Refused refusal.State ≡ Passed = rw e at h in absurd (let z : _≡_ {A = ℕ} 0 1 = cc in omega arith))
+
   pub miss-ready : missVerdict counts words strand side ofZero ofOther ≡ Passed → Ready words strand side ofZero ofOther
   unfolding missVerdict askedTable allOf
-  miss-ready h = by-test (wordsSound counts words)
-      (λ e.
+  miss-ready h =
+      let e = passed-sound h in
       let (s, l) = sound-words counts words e in
       let q = ask-fine (askedTable (stateIn words) strand side ofZero ofOther) (rw e at h) in
-      record { lent = l; sound = s; strands = search conj; sides = search conj; table = search conj })
-      (λ e. let r : Refused refusal.State ≡ Passed = rw e at h in absurd (let z : _≡_ {A = ℕ} 0 1 = cc in omega arith))
+      record { lent = l; sound = s; strands = search conj; sides = search conj; table = search conj }
 
   pub entry-in-table : Ready words strand side ofZero ofOther
       → entryStart (stateIn words .registers) strand side + 16 ≤ length (tableUsed (stateIn words .registers) strand side ofZero ofOther)
@@ -84,15 +89,14 @@ module _ (words : List ℕ) (strand side : ℕ) (ofZero ofOther : Bytes) where
 
   -- else the entry decides: its tag, then its word
   pub served-passed : missVerdict counts words strand side ofZero ofOther ≡ Passed →
-      let u : State = stateIn words in
-      let entry : Bytes = take 16 (drop (entryStart (u .registers) strand side) (tableUsed (u .registers) strand side ofZero ofOther)) in
-      servedOf counts words strand side ofZero ofOther ≡ servedAs (serveEntry u strand side (eight entry 0) (eight entry 8))
+      let entry : Bytes = entryBytes (stateIn words .registers) strand side ofZero ofOther in
+      servedOf counts words strand side ofZero ofOther ≡ servedAs (serveEntry (stateIn words) strand side (eight entry 0) (eight entry 8))
   unfolding missVerdict servedOf serve
-  served-passed h = by-test (wordsSound counts words)
-      (λ e. rw (e, rw e at h, entry-tag, entry-eight _ _ 8 (omega arith)))
-      (λ e. let r : Refused refusal.State ≡ Passed = rw e at h in absurd (let z : _≡_ {A = ℕ} 0 1 = cc in omega arith))
+  served-passed h =
+      let e = passed-sound h in
+      rw (e, rw e at h, entry-tag, entry-eight _ _ 8 (omega arith))
 
 -- the part that is handed back of a miss that passed
 pub part-entry : (file : List ℕ) (strand side : ℕ) (ofZero ofOther : Bytes)
-    → partBytes (partBy Passed file strand side) ofZero ofOther ≡ take 16 (drop (entryStart file strand side) (tableUsed file strand side ofZero ofOther))
+    → partBytes (partBy Passed file strand side) ofZero ofOther ≡ entryBytes file strand side ofZero ofOther
 part-entry file strand side ofZero ofOther = by-test (isZeroContext file strand side) (λ e. rw e) (λ e. rw e)

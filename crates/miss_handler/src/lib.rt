@@ -3,13 +3,13 @@ ghost use mathlib.Core.Path.{_≡_};
 ghost use mathlib.Core.Bool.{cond};
 ghost use Prim.Native.Nat.{_%_, _^_, _<_};
 ghost use lib.Dec.{eqb};
-ghost use lib.ListN.{length, take, drop};
+ghost use lib.ListN.{length};
 ghost use Rattle.machine.specs.Words.{bits};
 ghost use Rattle.machine.specs.State.{counts, stateIn};
 ghost use Rattle.machine.specs.Serve.{tableUsed, tableN, tableLength, entryStart, missVerdict, partOf, partBytes};
 ghost use Rattle.machine.specs.Serve.{tagFits, wordFits, entryFits, serveEntry, servedOf};
 ghost use Rattle.state.specs.Calls.{Lent, SoundIn, Did};
-ghost use Rattle.miss_handler.specs.Ready.{Ready};
+ghost use Rattle.miss_handler.specs.Ready.{Ready, entryBytes};
 use machine::Answer;
 use machine::Part;
 use machine::Refusal;
@@ -82,8 +82,8 @@ fn ask_miss<'a>(state: &[u64], strand: u8, side: u8, zero: &'a [u8], other: &'a 
 // The 16 bytes of a miss that passed: a part of the table used.
 fn entry_of<'a>(state: &[u64], strand: u8, side: u8, zero: &'a [u8], other: &'a [u8]) -> &'a [u8]
     requires { ⌜ Ready (now state) strand side (now zero) (now other) ⌝ }
-    ensures bytes { λ r. ⌜ now r ≡ take 16 (drop (entryStart (stateIn (now (state .entry)) .registers) strand side)
-        (tableUsed (stateIn (now (state .entry)) .registers) strand side (now (zero .entry)) (now (other .entry)))) ⌝ }
+    ensures bytes { λ r. ⌜ now r ≡ entryBytes (stateIn (now (state .entry)) .registers) strand side
+        (now (zero .entry)) (now (other .entry)) ⌝ }
     ensures count { λ r. ⌜ length (now r) ≡ 16 ⌝ }
 {
     let table = table_used(state, strand, side, zero, other);
@@ -159,6 +159,7 @@ fn word_fits(code: u64, word: u64) -> bool
     word >> 63 == 1 && word % 16 == code
 }
 
+// An entry, its tag and its word, against the miss.
 fn entry_fits(state: &[u64], strand: u8, side: u8, tag: u64, word: u64) -> bool
     requires { ⌜ Lent (now state) × (strand < 4) × (side < 2) ⌝ }
     ensures { λ r. ⌜ r ≡ entryFits (stateIn (now (state .entry)) .registers) strand side tag word ⌝ }

@@ -61,12 +61,12 @@ pub extern "C" fn t1mmu_run(state: &mut [u64], input: &[u8], output: &mut [u8]) 
 
 // Which part of which table is the entry of a miss; or a number and an empty part. It changes nothing.
 #[no_mangle]
-pub extern "C" fn t1mmu_hand_back(
+pub extern "C" fn t1mmu_hand_back<'a>(
     state: &[u64],
     strand: u8,
     side: u8,
-    zero: &[u8],
-    other: &[u8],
+    zero: &'a [u8],
+    other: &'a [u8],
 ) -> Part
     ensures told { λ r. ⌜ PartTold slots (now (state .entry)) strand side (now (zero .entry)) (now (other .entry)) r ⌝ }
     ensures equal { λ r. ⌜ r ≡ partOf counts (now (state .entry)) strand side (now (zero .entry)) (now (other .entry)) ⌝ }
@@ -83,12 +83,12 @@ pub struct Answered {
 // Serves a miss from one of two tables. The clauses are those of a run: what the ledger with its places tells, what the unit's definition
 // comes to, and both over every list of runs and served misses.
 #[no_mangle]
-pub extern "C" fn t1mmu_serve(
+pub extern "C" fn t1mmu_serve<'a>(
     state: &mut [u64],
     strand: u8,
     side: u8,
-    zero: &[u8],
-    other: &[u8],
+    zero: &'a [u8],
+    other: &'a [u8],
 ) -> Answered
     ensures told { λ r. ⌜ ServeTold slots (now (state .entry)) strand side (now (zero .entry)) (now (other .entry))
         (now (state .exit)) (r .bytes) ⌝ }

@@ -1,6 +1,6 @@
 -- `miss_handler::tag_fits` meets its contract: the first test that fails decides.
 use Prim.Native.Nat.{_/_, _^_}
-use mathlib.Core.Path.{_≡_, sym}
+use mathlib.Core.Path.{_≡_}
 use mathlib.Core.Bool.{true, false}
 use borrow.Author.Needs.{needs}
 use borrow.Author.Tests.{eq-eqb, ne-eqb}
