@@ -41,9 +41,9 @@ ruleset tests = (arith, eqb-true, eq-eqb)
 
 -- ---- the place
 -- an entry of a TSB of 512 * 2^n lies within it
-pub offset-within : (n code address : ℕ) → tsbOffset n code address + 16 ≤ 16 * 2 ^ (9 + n)
+pub entry-within : (n code address : ℕ) → tsbOffset n code address + 16 ≤ 16 * 2 ^ (9 + n)
 unfolding tsbOffset
-offset-within n code address = omega (arith, mod-lt (address / pageSize code) (pow-pos (9 + n)))
+entry-within n code address = omega (arith, mod-lt (address / pageSize code) (pow-pos (9 + n)))
 
 -- ---- the tag
 -- its parts are those of one number
@@ -162,8 +162,21 @@ module _ {n : Counts} {u : State} {l : Ledger} (a : Alike n u l) (strand side : 
   unfolding missIn
   miss-in t h =
       let at : ℕ = entryStart file strand side in
-      let room : at + 16 ≤ length t = rw h (offset-within _ _ _) in
+      let room : at + 16 ≤ length t = rw h (entry-within _ _ _) in
       rw (drop-drop, ← (eight-from t at (omega arith)), ← (eight-from t (at + 8) (omega arith)), fit-alike)
+
+-- ---- what 5, 6 and 14 let pass
+pub record TableLent (u : State) (strand side : ℕ) (ofZero ofOther : Bytes) : Type 0 where
+  pub strands : strand < 4
+  pub sides : side < 2
+  pub size : length (tableUsed (u .registers) strand side ofZero ofOther) ≡ tableLength (u .registers) strand side
+
+pub table-lent : (u : State) (strand side : ℕ) (ofZero ofOther : Bytes) → ask (askedTable u strand side ofZero ofOther) ≡ Passed
+    → TableLent u strand side ofZero ofOther
+unfolding askedTable allOf
+table-lent u strand side ofZero ofOther v =
+    let q = ask-fine (askedTable u strand side ofZero ofOther) v in
+    record { strands = search conj; sides = search conj; size = search conj }
 
 -- ---- what serving comes to: a refusal, no fit, or an insertion for a strand and a side that there are
 pub data MissAlike (u : State) (strand side : ℕ) : Miss → Stepped → Type 0 where
@@ -187,18 +200,6 @@ module _ {n : Counts} {u : State} {l : Ledger} (a : Alike n u l) (strand side : 
       let x : ℕ = firstNo (missQuestions l strand side ofZero ofOther) in
       first-no table-in-step ∙ by-test (eqb x 0) (λ e. rw e (sym (eqb-true x 0 e))) (λ e. rw e)
 
-  -- what they let pass
-  pub record Lent : Type 0 where
-    pub strands : strand < 4
-    pub sides : side < 2
-    pub size : length (tableUsed (u .registers) strand side ofZero ofOther) ≡ tableLength (u .registers) strand side
-
-  pub table-lent : ask (askedTable u strand side ofZero ofOther) ≡ Passed → Lent
-  unfolding askedTable allOf
-  table-lent v =
-      let q = ask-fine (askedTable u strand side ofZero ofOther) v in
-      record { strands = search conj; sides = search conj; size = search conj }
-
   pub miss-alike : MissAlike u strand side (miss l strand side ofZero ofOther) (serve u strand side ofZero ofOther)
   unfolding miss serve
   miss-alike = go (ask (askedTable u strand side ofZero ofOther)) refl
@@ -213,7 +214,7 @@ module _ {n : Counts} {u : State} {l : Ledger} (a : Alike n u l) (strand side : 
           rw (f, ne-eqb _ 0 (refusal-positive r)) (refuses r)
       go Passed e =
           let f : firstNo (missQuestions l strand side ofZero ofOther) ≡ 0 = sym table-number ∙ rw e in
-          let t = table-lent e in
+          let t = table-lent u strand side ofZero ofOther e in
           rw (
             f,
             table-alike a strand side (t .strands) (t .sides) ofZero ofOther,
@@ -237,10 +238,10 @@ module _ {n : Counts} {u : State} {l : Ledger} (a : Alike n u l) (strand side : 
         within = λ z. absurd (refusal-positive r z);
       }
       go Passed e =
-          let t = table-lent e in
+          let t = table-lent u strand side ofZero ofOther e in
           record {
             number = rw e at table-number;
             refused = λ z. absurd (z refl);
             handed = λ _. (rw (tag-access a strand (t .strands) side (t .sides)), sym (start-alike a strand side (t .strands) (t .sides)), refl);
-            within = λ _. rw (table-alike a strand side (t .strands) (t .sides) ofZero ofOther, t .size) (offset-within _ _ _);
+            within = λ _. rw (table-alike a strand side (t .strands) (t .sides) ofZero ofOther, t .size) (entry-within _ _ _);
           }

@@ -6,12 +6,10 @@ use mathlib.Core.Bool.{true}
 use mathlib.Core.List.{List}
 use native.Mathlib.Nat.{add-zero, add-assoc}
 use native.Mathlib.Omega.{arith}
-use borrow.Author.Tests.{eqb-true, ltb-true}
 use lib.ListN.{length, take, drop}
 use lib.Pow.{pow-mono}
 use lib.Seq.{getD-take, getD-drop}
-use Rattle.laws.specs.Tests.{allOf}
-use Rattle.laws.proofs.Bools.{by-test, and-left, and-right}
+use Rattle.laws.proofs.Bools.{by-test}
 use Rattle.machine.specs.State.{counts, stateIn, wordsSound}
 use Rattle.machine.specs.Stream.{Bytes, byte, eight}
 use Rattle.machine.specs.Serve.{isZeroContext, tableUsed, entryStart, askedTable, missVerdict, partBy, partBytes}
@@ -20,12 +18,10 @@ use Rattle.machine.specs.declared.Refusal.{Refusal}
 use Rattle.machine.specs.declared.Refusal.the-variants as refusal
 use Rattle.machine.specs.declared.Answer.the-variants as answer
 use Rattle.machine.specs.declared.Verdict.the-variants.{Passed, Refused}
-use Rattle.machine.proofs.State.{ask-fine, encode-state, sound-words}
-use Rattle.tsb.proofs.Sizes.{entry-within}
+use Rattle.machine.proofs.State.{encode-state, sound-words}
+use Rattle.machine.proofs.Misses.{table-lent, entry-within}
 use Rattle.questions.proofs.Asks.{Left, every}
 use Rattle.miss_handler.specs.Ready.{Ready, entryBytes}
-
-ruleset conj = (and-left, and-right, eqb-true, ltb-true)
 
 -- a table's length fits a word
 pub table-small : (n : ℕ) → n < 16 → 16 * 2 ^ (9 + n) < 2 ^ 64
@@ -65,12 +61,12 @@ module _ (words : List ℕ) (strand side : ℕ) (ofZero ofOther : Bytes) where
       (λ e. let r : Refused refusal.State ≡ Passed = rw e at h in absurd (let z : _≡_ {A = ℕ} 0 1 = cc in omega arith))
 
   pub miss-ready : missVerdict counts words strand side ofZero ofOther ≡ Passed → Ready words strand side ofZero ofOther
-  unfolding missVerdict askedTable allOf
+  unfolding missVerdict
   miss-ready h =
       let e = passed-sound h in
       let (s, l) = sound-words counts words e in
-      let q = ask-fine (askedTable (stateIn words) strand side ofZero ofOther) (rw e at h) in
-      record { lent = l; sound = s; strands = search conj; sides = search conj; table = search conj }
+      let t = table-lent (stateIn words) strand side ofZero ofOther (rw e at h) in
+      record { lent = l; sound = s; strands = t .strands; sides = t .sides; table = t .size }
 
   pub entry-in-table : Ready words strand side ofZero ofOther
       → entryStart (stateIn words .registers) strand side + 16 ≤ length (tableUsed (stateIn words .registers) strand side ofZero ofOther)

@@ -2,23 +2,18 @@
 -- Assumes nothing.
 use Prim.Native.Nat.{ℕ, _+_, _*_, _-_, _/_, _%_, _^_, _<_, _≤_}
 use mathlib.Core.Path.{_≡_, sym, ap, _∙_}
-use native.Mathlib.Nat.{mod-lt, suc-mul, mul-le-mul-right}
+use native.Mathlib.Nat.{suc-mul, mul-le-mul-right}
 use native.Mathlib.Omega.{arith}
 use lib.Dec.{lit<}
-use lib.Pow.{pow-add, pow-pos, shl-exact, shr-lt}
-use Rattle.machine.specs.Pages.{pageSize}
+use lib.Pow.{pow-add, shl-exact, shr-lt}
 use Rattle.machine.specs.Tsb.{tsbOffset}
+use Rattle.machine.proofs.Misses.{entry-within}
 
 -- how many entries
 pub tsb-entries : (n : ℕ) → n < 16 → (512 * 2 ^ n) % 2 ^ 64 ≡ 2 ^ (9 + n)
 tsb-entries n h = shl-exact 10 n 64 (lit< tt) (omega arith) ∙ sym (pow-add 2 9 n)
 
--- an entry lies within its TSB
-pub entry-within : (n code address : ℕ) → tsbOffset n code address + 16 ≤ 16 * 2 ^ (9 + n)
-unfolding tsbOffset
-entry-within n code address = omega (arith, mod-lt (address / pageSize code) (pow-pos (9 + n)))
-
--- so its offset lies below the TSB's length
+-- an offset lies below the TSB's length
 pub offset-below : (n code address : ℕ) → tsbOffset n code address < 2 ^ (13 + n)
 offset-below n code address =
     let k : 13 + n ≡ 4 + (9 + n) = omega arith in
