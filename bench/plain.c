@@ -170,9 +170,14 @@ static void removal(struct slot *slots, unsigned what, u64 partition, bool real,
     answer(out, 0, 0, 0, 0, what == 6 ? 0 : count, 0);
 }
 
+/* Where in a TSB the entry of a tag access stands. */
+static inline u64 place_in_tsb(u64 tag, unsigned n, u64 code) {
+    return T1MMU_TSB_ENTRY_BYTES * ((tag >> shifts[code]) & ((1ull << (9 + n)) - 1));
+}
+
 static u64 pointer(u64 tag, u64 base, u64 code) {
     unsigned n = base & 15;
-    return (base >> (13 + n) << (13 + n)) + 16 * ((tag >> shifts[code]) & ((1ull << (9 + n)) - 1));
+    return (base >> (13 + n) << (13 + n)) + place_in_tsb(tag, n, code);
 }
 
 static unsigned demap(struct unit *u, u64 *r, const uint8_t *b, uint8_t *out) {
@@ -238,7 +243,7 @@ static unsigned act(struct unit *u, const uint8_t *b, uint8_t *out) {
 }
 
 /* The state is taken to be sound. */
-struct t1mmu_report plain_run_unchecked(struct unit *u, const uint8_t *input, size_t length, uint8_t *output, size_t room) {
+static struct t1mmu_report run_unchecked(struct unit *u, const uint8_t *input, size_t length, uint8_t *output, size_t room) {
     static const uint8_t widths[10] = {
         [T1MMU_WRITE] = T1MMU_WRITE_BYTES,
         [T1MMU_INSERT] = T1MMU_INSERT_BYTES,
@@ -265,10 +270,62 @@ struct t1mmu_report plain_run_unchecked(struct unit *u, const uint8_t *input, si
     return r;
 }
 
-struct t1mmu_report plain_run(struct unit *u, const uint8_t *input, size_t length, uint8_t *output, size_t room) {
+static struct t1mmu_report run(struct unit *u, const uint8_t *input, size_t length, uint8_t *output, size_t room) {
     if (!sound(u)) return (struct t1mmu_report){0, 0, 1};
-    return plain_run_unchecked(u, input, length, output, room);
+    return run_unchecked(u, input, length, output, room);
 }
+
+/* The state is taken to be sound. */
+static struct t1mmu_part hand_back_unchecked(const struct unit *u, unsigned strand, unsigned side, size_t zero_length, size_t other_length) {
+    if (strand > 3) return (struct t1mmu_part){.number = 5};
+    if (side > 1) return (struct t1mmu_part){.number = 6};
+    const u64 *r = u->registers[strand];
+    u64 tag = r[20 + side];
+    unsigned other = (tag & 0x1FFF) != 0, n = r[8 + 4 * side + 2 * other] & 15;
+    if ((other ? other_length : zero_length) != T1MMU_TSB_BYTES(n)) return (struct t1mmu_part){.number = 14};
+    return (struct t1mmu_part){0, other, place_in_tsb(tag, n, r[16 + 2 * side + other] & 7), T1MMU_TSB_ENTRY_BYTES};
+}
+
+static struct t1mmu_part hand_back(const struct unit *u, unsigned strand, unsigned side, size_t zero_length, size_t other_length) {
+    if (!sound(u)) return (struct t1mmu_part){.number = 1};
+    return hand_back_unchecked(u, strand, side, zero_length, other_length);
+}
+
+/* 0 where the TSB entry was answered, else the refusal. */
+static unsigned serve_entry(struct unit *u, u64 *r, unsigned side, unsigned other, const uint8_t *entry, uint8_t *out) {
+    u64 tag = r[20 + side], code = r[16 + 2 * side + other] & 7, word = take8(entry + 8);
+    u64 differing = take8(entry) ^ ((tag & 0x1FFF) << 48 | tag >> 22);
+    if ((code == 5 ? differing >> 6 : differing) == 0 && word >> 63 && (word & 15) == code) return insert(u, r, side, 0, word, out);
+    answer(out, 6, 0, 0, 0, 0, 0);
+    return 0;
+}
+
+/* The state is taken to be sound. */
+static struct t1mmu_answered serve_unchecked(struct unit *u, unsigned strand, unsigned side, const uint8_t *zero, size_t zero_length,
+                                             const uint8_t *other, size_t other_length) {
+    struct t1mmu_answered answered;
+    struct t1mmu_part part = hand_back_unchecked(u, strand, side, zero_length, other_length);
+    unsigned number = part.number;
+    if (!number) number = serve_entry(u, u->registers[strand], side, part.other, (part.other ? other : zero) + part.start, answered.bytes);
+    if (number) answer(answered.bytes, 5, number, 0, 0, 0, 0);
+    return answered;
+}
+
+static struct t1mmu_answered serve(struct unit *u, unsigned strand, unsigned side, const uint8_t *zero, size_t zero_length,
+                                   const uint8_t *other, size_t other_length) {
+    if (!sound(u)) return (struct t1mmu_answered){{5, 1}};
+    return serve_unchecked(u, strand, side, zero, zero_length, other, other_length);
+}
+
+/* The calls, with the soundness test and without. */
+const struct {
+    struct t1mmu_report (*run)(struct unit *, const uint8_t *, size_t, uint8_t *, size_t);
+    struct t1mmu_part (*hand_back)(const struct unit *, unsigned, unsigned, size_t, size_t);
+    struct t1mmu_answered (*serve)(struct unit *, unsigned, unsigned, const uint8_t *, size_t, const uint8_t *, size_t);
+} plain_checked = {run, hand_back, serve}, plain_unchecked = {run_unchecked, hand_back_unchecked, serve_unchecked};
+
+/* Tag access as a trap leaves it. */
+void plain_tag_access(struct unit *u, unsigned strand, unsigned side, u64 tag) { u->registers[strand][20 + side] = tag; }
 
 size_t plain_size(void) { return sizeof(struct unit); }
 

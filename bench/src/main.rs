@@ -2,17 +2,27 @@
 mod plain;
 mod work;
 
+use std::hint::black_box;
 use std::process::{exit, Command};
 use std::time::Instant;
-use t1mmu::sys::{t1mmu_run, Report};
+use t1mmu::numbers::{cell_at, DATA, TAG_ACCESS};
+use t1mmu::sys::{t1mmu_hand_back, t1mmu_run, t1mmu_serve, Answered, Part, Report};
 use t1mmu::{ANSWER_BYTES, STATE_WORDS};
-use work::{Short, Work};
+use work::{Calls, Misses, Short, Work};
 
-type PlainRun = unsafe extern "C" fn(unit: *mut u64, input: *const u8, length: usize, output: *mut u8, room: usize) -> Report;
+/// The calls of the C unit; ranges as pointer and length, and of tables that are not read the length alone.
+#[repr(C)]
+#[derive(Clone, Copy)]
+pub struct Plain {
+    run: unsafe extern "C" fn(*mut u64, *const u8, usize, *mut u8, usize) -> Report,
+    hand_back: unsafe extern "C" fn(*const u64, u32, u32, usize, usize) -> Part,
+    serve: unsafe extern "C" fn(*mut u64, u32, u32, *const u8, usize, *const u8, usize) -> Answered,
+}
 
 extern "C" {
-    fn plain_run(unit: *mut u64, input: *const u8, length: usize, output: *mut u8, room: usize) -> Report;
-    fn plain_run_unchecked(unit: *mut u64, input: *const u8, length: usize, output: *mut u8, room: usize) -> Report;
+    static plain_checked: Plain;
+    static plain_unchecked: Plain;
+    fn plain_tag_access(unit: *mut u64, strand: u32, side: u32, tag: u64);
     fn plain_size() -> usize;
     fn plain_load(unit: *mut u64, words: *const u64);
     fn plain_store(unit: *const u64, words: *mut u64);
@@ -21,8 +31,8 @@ extern "C" {
 pub enum Contestant {
     Library(Vec<u64>),
     Rust(Box<plain::Unit>),
-    /// with the soundness test or without, by its entry point
-    C(Vec<u64>, PlainRun),
+    /// with the soundness test or without, by its calls
+    C(Vec<u64>, Plain),
 }
 
 const NAMES: [&str; 4] = ["library", "rust", "c", "c without the test"];
@@ -33,10 +43,10 @@ impl Contestant {
             0 => Contestant::Library(words.to_vec()),
             1 => Contestant::Rust(plain::Unit::load(words)),
             _ => {
-                // SAFETY: the unit has the size that the C side gives, and words is a state.
+                // SAFETY: the unit has the size that the C side gives, words is a state, and the calls never change.
                 let mut unit = vec![0; unsafe { plain_size() }.div_ceil(8)];
                 unsafe { plain_load(unit.as_mut_ptr(), words.as_ptr()) };
-                Contestant::C(unit, if which == 2 { plain_run } else { plain_run_unchecked })
+                Contestant::C(unit, unsafe { if which == 2 { plain_checked } else { plain_unchecked } })
             }
         }
     }
@@ -48,7 +58,44 @@ impl Contestant {
                 t1mmu_run(s.as_mut_ptr(), s.len(), input.as_ptr(), input.len(), output.as_mut_ptr(), output.len())
             },
             Contestant::Rust(unit) => unit.run(input, output),
-            Contestant::C(u, run) => unsafe { run(u.as_mut_ptr(), input.as_ptr(), input.len(), output.as_mut_ptr(), output.len()) },
+            Contestant::C(u, plain) => unsafe {
+                (plain.run)(u.as_mut_ptr(), input.as_ptr(), input.len(), output.as_mut_ptr(), output.len())
+            },
+        }
+    }
+
+    /// The data side's tag access as a trap leaves it; the library's state is the caller's to write.
+    fn tag_access(&mut self, strand: u8, tag: u64) {
+        match self {
+            Contestant::Library(s) => s[cell_at(strand as usize, TAG_ACCESS + DATA)] = tag,
+            Contestant::Rust(unit) => unit.tag_access(strand, DATA, tag),
+            // SAFETY: a unit has a word for every strand's register.
+            Contestant::C(u, _) => unsafe { plain_tag_access(u.as_mut_ptr(), strand.into(), DATA.into(), tag) },
+        }
+    }
+
+    fn serve(&mut self, strand: u8, [zero, other]: [&[u8]; 2]) -> [u8; ANSWER_BYTES] {
+        // SAFETY: every range is that of a slice, and none overlap.
+        match self {
+            Contestant::Library(s) => unsafe {
+                t1mmu_serve(s.as_mut_ptr(), s.len(), strand, DATA, zero.as_ptr(), zero.len(), other.as_ptr(), other.len()).bytes
+            },
+            Contestant::Rust(unit) => unit.serve(strand, DATA, [zero, other]),
+            Contestant::C(u, plain) => unsafe {
+                let (strand, side) = (strand.into(), DATA.into());
+                (plain.serve)(u.as_mut_ptr(), strand, side, zero.as_ptr(), zero.len(), other.as_ptr(), other.len()).bytes
+            },
+        }
+    }
+
+    fn hand_back(&self, strand: u8, [zero, other]: [&[u8]; 2]) -> Part {
+        // SAFETY: every range is that of a slice, and is only read.
+        match self {
+            Contestant::Library(s) => unsafe {
+                t1mmu_hand_back(s.as_ptr(), s.len(), strand, DATA, zero.as_ptr(), zero.len(), other.as_ptr(), other.len())
+            },
+            Contestant::Rust(unit) => unit.hand_back(strand, DATA, [zero, other]),
+            Contestant::C(u, plain) => unsafe { (plain.hand_back)(u.as_ptr(), strand.into(), DATA.into(), zero.len(), other.len()) },
         }
     }
 
@@ -69,48 +116,93 @@ impl Contestant {
 /// One pass; callgrind counts what happens below this function alone.
 #[no_mangle]
 #[inline(never)]
-pub fn measured_pass(c: &mut Contestant, runs: &[Vec<u8>], output: &mut [u8]) -> usize {
-    pass(c, runs, output)
+pub fn measured_pass(c: &mut Contestant, calls: &Calls, output: &mut [u8]) -> usize {
+    pass(c, calls, output)
 }
 
 /// The same, not counted.
 #[inline(never)]
-fn warm_pass(c: &mut Contestant, runs: &[Vec<u8>], output: &mut [u8]) -> usize {
-    pass(c, runs, output)
+fn warm_pass(c: &mut Contestant, calls: &Calls, output: &mut [u8]) -> usize {
+    pass(c, calls, output)
 }
 
 #[inline(always)]
-fn pass(c: &mut Contestant, runs: &[Vec<u8>], output: &mut [u8]) -> usize {
+fn pass(c: &mut Contestant, calls: &Calls, output: &mut [u8]) -> usize {
+    match calls {
+        Calls::Runs(inputs) => runs(c, inputs, output),
+        Calls::Serves(_, misses) => serves(c, misses),
+        Calls::HandBacks(misses) => hand_backs(c, misses),
+    }
+}
+
+// Each compiled by itself, so that none costs another an instruction.
+
+#[inline(never)]
+fn runs(c: &mut Contestant, inputs: &[Vec<u8>], output: &mut [u8]) -> usize {
     let mut answered = 0;
-    for input in runs {
+    for input in inputs {
         let report = c.run(input, output);
         answered += report.answered + (report.stop != 0) as usize * 1_000_000;
     }
     answered
 }
 
-/// Room for every answer of each of the works.
-fn room(works: &[&Work]) -> Vec<u8> {
-    vec![0; ANSWER_BYTES * works.iter().flat_map(|w| w.runs()).map(|r| r.len() / 2 + 1).max().unwrap_or(0)]
+#[inline(never)]
+fn serves(c: &mut Contestant, misses: &Misses) -> usize {
+    let mut kinds = 0;
+    for &(strand, tag) in &misses.each {
+        c.tag_access(strand, tag);
+        kinds += black_box(c.serve(strand, misses.tables()))[0] as usize;
+    }
+    kinds
 }
 
-/// All give the same bytes, reports and words, so that they are measured at the same work.
+#[inline(never)]
+fn hand_backs(c: &mut Contestant, misses: &Misses) -> usize {
+    let mut length = 0;
+    for &(strand, tag) in &misses.each {
+        c.tag_access(strand, tag);
+        length += black_box(c.hand_back(strand, misses.tables())).length;
+    }
+    length
+}
+
+/// Room for every answer of each of the works.
+fn room(works: &[&Work]) -> Vec<u8> {
+    vec![0; ANSWER_BYTES * works.iter().flat_map(|w| w.calls().runs()).map(|r| r.len() / 2 + 1).max().unwrap_or(0)]
+}
+
+/// What each gives, which is the same for all.
+fn same<T: PartialEq>(what: &str, work: &Work, all: &mut [Contestant], give: impl Fn(&mut Contestant) -> T) -> T {
+    let mut seen: Vec<T> = all.iter_mut().map(give).collect();
+    assert!(seen.iter().all(|s| *s == seen[0]), "{}: the contestants' {what} differ", work.name);
+    seen.swap_remove(0)
+}
+
+/// All give the same bytes, reports, parts and words, so that they are measured at the same work; and it is the work that is meant.
 fn agree(work: &Work) {
     let mut all: Vec<Contestant> = (0..NAMES.len()).map(|i| Contestant::new(i, &work.words)).collect();
     for _ in 0..2 {
-        for input in work.runs() {
-            let seen: Vec<(Report, Vec<u8>)> = all
-                .iter_mut()
-                .map(|c| {
+        match work.calls() {
+            Calls::Runs(runs) => runs.iter().for_each(|input| {
+                let (report, _) = same("answers", work, &mut all, |c| {
                     let mut output = room(&[work]);
                     (c.run(input, &mut output), output)
-                })
-                .collect();
-            assert!(seen[0].0.stop == 0, "{}: stop {}", work.name, seen[0].0.stop);
-            assert!(seen.iter().all(|s| *s == seen[0]), "{}: the contestants' answers differ", work.name);
+                });
+                assert!(report.stop == 0, "{}: stop {}", work.name, report.stop);
+            }),
+            Calls::Serves(kind, misses) => misses.each.iter().for_each(|&(strand, tag)| {
+                all.iter_mut().for_each(|c| c.tag_access(strand, tag));
+                let answer = same("answers", work, &mut all, |c| c.serve(strand, misses.tables()));
+                assert!(answer[0] == *kind, "{}: answer {answer:?}", work.name);
+            }),
+            Calls::HandBacks(misses) => misses.each.iter().for_each(|&(strand, tag)| {
+                all.iter_mut().for_each(|c| c.tag_access(strand, tag));
+                let part = same("parts", work, &mut all, |c| c.hand_back(strand, misses.tables()));
+                assert!(part.number == 0, "{}: number {}", work.name, part.number);
+            }),
         }
-        let words: Vec<Vec<u64>> = all.iter().map(|c| c.words()).collect();
-        assert!(words.iter().all(|w| *w == words[0]), "{}: the contestants' states differ", work.name);
+        same("states", work, &mut all, |c| c.words());
     }
 }
 
@@ -136,9 +228,9 @@ fn nanoseconds<const N: usize>(turns: [Turn; N]) -> [f64; N] {
     for round in 0..(4_000_000 / turns[0].0.units).clamp(60, 600) {
         for turn in 0..N {
             let i = (round + turn) % N;
-            let (work, runs) = (turns[i].0, turns[i].0.runs());
+            let (work, calls) = (turns[i].0, turns[i].0.calls());
             let began = Instant::now();
-            std::hint::black_box(measured_pass(&mut all[i], runs, &mut output));
+            black_box(measured_pass(&mut all[i], calls, &mut output));
             best[i] = best[i].min(began.elapsed().as_nanos() as f64 / work.units as f64);
         }
     }
@@ -180,8 +272,8 @@ fn functions(work: &Work) -> Option<String> {
 fn counted((work, which): Turn) {
     let mut c = Contestant::new(which, &work.words);
     let mut output = room(&[work]);
-    std::hint::black_box(warm_pass(&mut c, work.runs(), &mut output));
-    std::hint::black_box(measured_pass(&mut c, work.runs(), &mut output));
+    black_box(warm_pass(&mut c, work.calls(), &mut output));
+    black_box(measured_pass(&mut c, work.calls(), &mut output));
 }
 
 fn figure(n: Option<f64>) -> String {
@@ -225,7 +317,7 @@ fn row(work: &Work) -> bool {
 
 fn first_table(all: &[Work]) {
     head(&[
-        "per command (or pair, or run)",
+        "per command (or pair, or run, or call)",
         "library ns",
         "Rust ns",
         "C ns",
@@ -244,7 +336,7 @@ fn first_table(all: &[Work]) {
     }
 }
 
-/// A row of the second table: hits in runs of `length`; a run without a command, `empty`, pays for number 1 alone.
+/// A row of the second table, at `length` commands a run; a run without a command, `empty`, pays for number 1 alone.
 fn short_row(empty: &Work, length: usize, work: &Work) {
     agree(work);
     let [library, c, test] = measured([(work, 0), (work, 3), (empty, 0)]);
@@ -263,22 +355,22 @@ fn short_row(empty: &Work, length: usize, work: &Work) {
     );
 }
 
-/// What a soundness test at each run costs where runs are short: the C unit here does without.
+/// What a soundness test at each call costs where runs are short, and in serving: the C unit here does without.
 fn second_table(all: &[Short]) {
     head(&[
-        "per command, random slot of a full side",
+        "per command, random slot of a full side (or per call)",
         "library ns",
         "C without the test ns",
         "library/C",
         "library instr",
         "C instr",
         "library/C instr",
-        "number 1's share of a run, instr",
-        "number 1's share of a run, ns",
+        "number 1's share of a call, instr",
+        "number 1's share of a call, ns",
     ]);
     for short in all {
         agree(&short.empty);
-        short.hits.iter().for_each(|(length, work)| short_row(&short.empty, *length, work));
+        short.works.iter().for_each(|(length, work)| short_row(&short.empty, *length, work));
     }
 }
 

@@ -1,6 +1,6 @@
 //! The unit as one would write it in Rust for speed without proofs: own structs, a linear scan, a pairwise soundness test.
-use t1mmu::numbers::{self, cell_at, slot_at, ANSWER_BYTES, CELLS, SIDES, SLOTS, SLOT_WORDS, STATE_WORDS, STRANDS};
-use t1mmu::sys::Report;
+use t1mmu::numbers::{self, cell_at, slot_at, ANSWER_BYTES, CELLS, SIDES, SLOTS, SLOT_WORDS, STATE_WORDS, STRANDS, TSB_ENTRY_BYTES};
+use t1mmu::sys::{Part, Report};
 
 const SHIFTS: [u8; 16] = [13, 16, 0, 22, 0, 28, 0, 0, 0, 0, 0, 0, 0, 0, 0, 0];
 /// By command byte.
@@ -124,9 +124,21 @@ fn trap(r: &mut Registers, c: &Cause, tags: bool, number: u8, fault: u8, out: Ou
     answer(out, [2, number, fault, 0], c.address, r[20 + c.side]);
 }
 
+/// Where in a TSB the entry of a tag access stands.
+fn place_in_tsb(tag: u64, n: u64, code: u64) -> u64 {
+    TSB_ENTRY_BYTES as u64 * ((tag >> shift(code)) & ((1 << (9 + n)) - 1))
+}
+
 fn pointer(tag: u64, base: u64, code: u64) -> u64 {
     let n = base & 15;
-    (base >> (13 + n) << (13 + n)) + 16 * ((tag >> shift(code)) & ((1 << (9 + n)) - 1))
+    (base >> (13 + n) << (13 + n)) + place_in_tsb(tag, n, code)
+}
+
+/// Whether the bytes are the TSB entry of a tag access.
+fn fits(entry: &[u8], tag: u64, code: u64) -> bool {
+    let differing = take8(entry) ^ ((tag & 0x1FFF) << 48 | tag >> 22);
+    let word = take8(&entry[8..]);
+    (if code == 5 { differing >> 6 } else { differing }) == 0 && word >> 63 == 1 && word & 15 == code
 }
 
 /// Removes the entries that pass the test and answers with their number.
@@ -141,13 +153,14 @@ fn removal(slots: &mut [Slot; SLOTS], out: Out, goes: impl Fn(&Slot) -> bool) {
     answer(out, [0; 4], count, 0);
 }
 
+/// What has `SERVING` is compiled for runs and again for serves: one copy for both is compiled differently, which moves the rows of runs.
 impl Unit {
-    fn sound(&self) -> bool {
+    fn sound<const SERVING: bool>(&self) -> bool {
         let registers = self.registers.iter().all(|r| r.iter().enumerate().all(|(n, &v)| value_allowed(n, v)));
-        registers && self.sides.iter().all(Unit::side_sound)
+        registers && self.sides.iter().all(Unit::side_sound::<SERVING>)
     }
 
-    fn side_sound(side: &[Slot; SLOTS]) -> bool {
+    fn side_sound<const SERVING: bool>(side: &[Slot; SLOTS]) -> bool {
         if !side.iter().all(Slot::sound) {
             return false;
         }
@@ -229,7 +242,11 @@ impl Unit {
         if flags > 3 {
             return 8;
         }
-        let r = &self.registers[b[1] as usize];
+        self.put::<false>(b[1], side, flags, word, out)
+    }
+
+    fn put<const SERVING: bool>(&mut self, strand: u8, side: usize, flags: u8, word: u64, out: Out) -> u8 {
+        let r = &self.registers[strand as usize];
         let tag = r[20 + side];
         if !in_range(tag) {
             return 11;
@@ -240,7 +257,7 @@ impl Unit {
         let real = flags & 1 == 1;
         let context = if real { 0 } else { (tag & 0x1FFF) as u16 };
         let new = Slot { page: rounded(tag, word), word, context, partition: r[0] as u8, real, locked: flags & 2 == 2, used: true };
-        place(&mut self.sides[side], new, out)
+        place::<SERVING>(&mut self.sides[side], new, out)
     }
 
     /// 0 where the command was answered, else its refusal.
@@ -333,7 +350,7 @@ impl Unit {
 
     pub fn run(&mut self, input: &[u8], output: &mut [u8]) -> Report {
         let mut report = Report { answered: 0, taken: 0, stop: 0 };
-        if !self.sound() {
+        if !self.sound::<false>() {
             report.stop = 1;
             return report;
         }
@@ -360,6 +377,54 @@ impl Unit {
             report.taken += WIDTHS[code];
         }
         report
+    }
+
+    pub fn hand_back(&self, strand: u8, side: u8, tables: [&[u8]; 2]) -> Part {
+        let refused = |number| Part { number, ..Part::default() };
+        if !self.sound::<true>() {
+            return refused(1);
+        }
+        if strand > 3 {
+            return refused(5);
+        }
+        if side > 1 {
+            return refused(6);
+        }
+        let (r, side) = (&self.registers[strand as usize], side as usize);
+        let tag = r[20 + side];
+        let other = (tag & 0x1FFF != 0) as usize;
+        let n = r[8 + 4 * side + 2 * other] & 15;
+        if tables[other].len() != numbers::tsb_bytes(n as u32) {
+            return refused(14);
+        }
+        let start = place_in_tsb(tag, n, r[16 + 2 * side + other] & 7) as usize;
+        Part { number: 0, other: other as u8, start, length: TSB_ENTRY_BYTES }
+    }
+
+    pub fn serve(&mut self, strand: u8, side: u8, tables: [&[u8]; 2]) -> [u8; ANSWER_BYTES] {
+        let mut out = [0; ANSWER_BYTES];
+        let part = self.hand_back(strand, side, tables);
+        let number = if part.number == 0 { self.serve_part(strand, side as usize, tables, part, &mut out) } else { part.number };
+        if number != 0 {
+            answer(&mut out, [5, number, 0, 0], 0, 0);
+        }
+        out
+    }
+
+    /// 0 where the part was answered, else the refusal.
+    fn serve_part(&mut self, strand: u8, side: usize, tables: [&[u8]; 2], part: Part, out: Out) -> u8 {
+        let (r, other) = (&self.registers[strand as usize], part.other as usize);
+        let entry = &tables[other][part.start..][..part.length];
+        if fits(entry, r[20 + side], r[16 + 2 * side + other] & 7) {
+            return self.put::<true>(strand, side, 0, take8(&entry[8..]), out);
+        }
+        answer(out, [6, 0, 0, 0], 0, 0);
+        0
+    }
+
+    /// Tag access as a trap leaves it.
+    pub fn tag_access(&mut self, strand: u8, side: u8, tag: u64) {
+        self.registers[strand as usize][20 + side as usize] = tag;
     }
 
     /// From the library's words, outside what is measured.
@@ -419,7 +484,7 @@ impl Slot {
 }
 
 /// Removes what the new entry overlaps, then the lowest empty slot, the lowest unlocked unused one, or the lowest unlocked one.
-fn place(slots: &mut [Slot; SLOTS], new: Slot, out: Out) -> u8 {
+fn place<const SERVING: bool>(slots: &mut [Slot; SLOTS], new: Slot, out: Out) -> u8 {
     let (mut empty, mut unused, mut unlocked) = (None, None, None);
     for (i, s) in slots.iter_mut().enumerate() {
         if s.live() && s.overlaps(&new) {

@@ -1,9 +1,10 @@
-//! What is measured: a start state, and the inputs of one pass over it.
+//! What is measured: a start state, and the calls of one pass over it.
 use crate::plain::{owner, partition_of};
 use std::cell::LazyCell;
-use t1mmu::numbers::{cell_at, slot_at, SIDES, SLOTS, SLOT_WORDS, STATE_WORDS, STRANDS};
+use t1mmu::numbers::{cell_at, slot_at, tsb_bytes, SIDES, SLOTS, SLOT_WORDS, STATE_WORDS, STRANDS, TSB_ENTRY_BYTES};
 use t1mmu::numbers::{ACCESS, DEMAP_ALL, DEMAP_CONTEXT, DEMAP_PAGE, INSERT, POINTERS, READ, WRITE};
 use t1mmu::numbers::{DATA, DATA_ON, FETCH_ON, HYPERPRIVILEGED, LOAD, PRIMARY, PRIVILEGED, SECONDARY};
+use t1mmu::numbers::{DISPLACED, DONE, NOT_IN_TABLE};
 use t1mmu::numbers::{MODE, PARTITION, PRIMARY_CONTEXT, SECONDARY_CONTEXT, TAG_ACCESS, TRANSLATION};
 
 const TAG: u64 = 0x1000_0000;
@@ -14,8 +15,14 @@ const EIGHT_BYTES: u8 = 3;
 const NO_REGISTER: u8 = 99;
 /// Where the upper half of the addresses begins.
 const UPPER: u64 = 0xFFFF_8000_0000_0000;
+/// Where pages begin that works put in; one guest and eight partitions have none of them at first.
+const NEW: u64 = 0x4000_0000;
+/// Where pages begin that they never have.
+const ABSENT: u64 = 0x7000_0000;
 /// Commands of a pass, but for the longest runs.
 const PASS: usize = 4096;
+/// The entries of a TSB of N 0, and the misses of a pass.
+const TSB_ENTRIES: usize = tsb_bytes(0) / TSB_ENTRY_BYTES;
 
 pub struct Work {
     pub name: String,
@@ -24,15 +31,56 @@ pub struct Work {
     pub units: usize,
     /// the library's share of the plain Rust unit's time that is to be reached; infinite where none is set
     pub goal: f64,
-    inputs: Inputs,
+    calls: LazyCell<Calls, Box<dyn FnOnce() -> Calls>>,
 }
 
-type Inputs = LazyCell<Vec<Vec<u8>>, Box<dyn FnOnce() -> Vec<Vec<u8>>>>;
-
 impl Work {
-    /// The inputs of one pass; made on demand, since callgrind's runs want one work's alone, and once, so that contestants share them.
+    fn new(name: &str, words: &[u64], units: usize, goal: f64, calls: impl FnOnce() -> Calls + 'static) -> Work {
+        Work { name: name.to_string(), words: words.to_vec(), units, goal, calls: LazyCell::new(Box::new(calls)) }
+    }
+
+    /// Made on demand, since callgrind's runs want one work's alone, and once, so that contestants share them.
+    pub fn calls(&self) -> &Calls {
+        &self.calls
+    }
+}
+
+/// The calls of one pass.
+pub enum Calls {
+    /// runs, by their inputs
+    Runs(Vec<Vec<u8>>),
+    /// serves that are answered with this kind
+    Serves(u8, Misses),
+    HandBacks(Misses),
+}
+
+impl Calls {
     pub fn runs(&self) -> &[Vec<u8>] {
-        &self.inputs
+        match self {
+            Calls::Runs(inputs) => inputs,
+            _ => &[],
+        }
+    }
+}
+
+/// Misses of the data side, and the TSBs that are lent for them.
+pub struct Misses {
+    /// strand and tag access
+    pub each: Vec<(u8, u64)>,
+    zero: Vec<u8>,
+    other: Vec<u8>,
+}
+
+impl Misses {
+    /// 8 KB pages, the strands in turn. The TSB has the pages from `held` on, which is the start of 4 MB; that of context zero has none.
+    fn new(held: u64, page: impl Fn(u64) -> u64) -> Misses {
+        let each = (0..TSB_ENTRIES).map(|i| ((i % STRANDS) as u8, page(i as u64) | CONTEXT)).collect();
+        let entry = |i: u64| [CONTEXT << 48 | held >> 22, 1 << 63 | i << 13 | 0x440].map(u64::to_be_bytes).concat();
+        Misses { each, zero: vec![0; tsb_bytes(0)], other: (0..TSB_ENTRIES as u64).flat_map(entry).collect() }
+    }
+
+    pub fn tables(&self) -> [&[u8]; 2] {
+        [&self.zero, &self.other]
     }
 }
 
@@ -141,8 +189,7 @@ fn hit(words: &[u64], r: &mut Random) -> Vec<u8> {
 
 /// One long run; the command, or pair, of each number.
 fn long(name: &str, goal: f64, words: &[u64], each: impl Fn(usize) -> Vec<u8> + 'static) -> Work {
-    let inputs = Box::new(move || vec![(0..PASS).flat_map(&each).collect()]);
-    Work { name: name.to_string(), words: words.to_vec(), units: PASS, goal, inputs: LazyCell::new(inputs) }
+    Work::new(name, words, PASS, goal, move || Calls::Runs(vec![(0..PASS).flat_map(&each).collect()]))
 }
 
 /// One long run of hits at random slots.
@@ -154,17 +201,15 @@ fn long_hits(name: &str, goal: f64, words: Vec<u64>) -> Work {
 fn hits(words: Vec<u64>, length: usize, goal: f64) -> Work {
     let number = (PASS / length).max(1);
     let of = words.clone();
-    let inputs = Box::new(move || {
+    Work::new(&format!("hits in runs of {length}"), &words, number * length, goal, move || {
         let mut r = Random(1234567);
-        (0..number).map(|_| (0..length).flat_map(|_| hit(&of, &mut r)).collect()).collect()
-    });
-    Work { name: format!("hits in runs of {length}"), words, units: number * length, goal, inputs: LazyCell::new(inputs) }
+        Calls::Runs((0..number).map(|_| (0..length).flat_map(|_| hit(&of, &mut r)).collect()).collect())
+    })
 }
 
 /// Runs without a command: they pay for the soundness test alone.
 fn soundness(name: &str, goal: f64, words: Vec<u64>) -> Work {
-    let inputs = Box::new(|| vec![Vec::new(); 256]);
-    Work { name: format!("soundness of two {name}"), words, units: 256, goal, inputs: LazyCell::new(inputs) }
+    Work::new(&format!("soundness of two {name}"), &words, 256, goal, || Calls::Runs(vec![Vec::new(); 256]))
 }
 
 fn lookups() -> Vec<Work> {
@@ -176,8 +221,8 @@ fn lookups() -> Vec<Work> {
         long_hits("hit, random slot, one guest, four page sizes", 0.7, state(Population::FourSizes)),
         long_hits("hit, random slot, one guest, scattered pages", 0.7, state(Population::Scattered)),
         long_hits("hit, random slot, eight partitions", 1.0, eight.clone()),
-        long("miss, one guest", 0.7, &one, |i| load(0, 0x7000_0000 + 0x2000 * (i as u64 % 512))),
-        long("miss, eight partitions", 1.0, &eight, |i| load(i as u64 % 4, 0x7000_0000 + 0x2000 * (i as u64 % 512))),
+        long("miss, one guest", 0.7, &one, |i| load(0, ABSENT + 0x2000 * (i as u64 % 512))),
+        long("miss, eight partitions", 1.0, &eight, |i| load(i as u64 % 4, ABSENT + 0x2000 * (i as u64 % 512))),
         long("bypass (mode 2)", 1.0, &hyperprivileged(&one), |i| load(0, 8 * i as u64)),
     ]
 }
@@ -190,14 +235,13 @@ fn hyperprivileged(words: &[u64]) -> Vec<u64> {
 
 /// Each insertion has a page of its own: 2,048 pages pass before one comes again.
 fn displacing(i: usize, strand: u8) -> Vec<u8> {
-    let page = 0x4000_0000 + 0x2000 * (i as u64 % 2048);
+    let page = NEW + 0x2000 * (i as u64 % 2048);
     [with(&[WRITE, strand, TAG_ACCESS + DATA], page | CONTEXT), insert(strand, 1 << 63 | (i as u64) << 13 | 0x440)].concat()
 }
 
 fn changes() -> Vec<Work> {
     let (one, eight) = (state(Population::OneGuest), state(Population::EightPartitions));
     let own = 1 << 63 | 0x440;
-    let absent = 0x7000_0000;
     vec![
         long("tag access and insertion with displacement, one guest (a pair)", 1.0, &one, |i| displacing(i, 0)),
         long("the same, eight partitions", 1.0, &eight, |i| displacing(i, i as u8 % 4)),
@@ -205,8 +249,8 @@ fn changes() -> Vec<Work> {
         long("demap page and insertion again (a pair)", 1.0, &one, move |_| {
             [demap_page(0, TAG), insert(0, own)].concat()
         }),
-        long("demap page, none there", 1.0, &one, move |_| demap_page(0, absent)),
-        long("demap page, none there, eight partitions", 1.0, &eight, move |i| demap_page(i as u8 % 4, absent)),
+        long("demap page, none there", 1.0, &one, |_| demap_page(0, ABSENT)),
+        long("demap page, none there, eight partitions", 1.0, &eight, |i| demap_page(i as u8 % 4, ABSENT)),
         long("demap context, none there", 1.0, &one, |_| vec![DEMAP_CONTEXT, 0, DATA, SECONDARY]),
         long("demap all, none there", 1.0, &other_partition(&one), |_| vec![DEMAP_ALL, 0, DATA]),
     ]
@@ -248,6 +292,26 @@ fn states() -> Vec<Work> {
     ]
 }
 
+/// Each serve puts in a page that is not there: all those of the TSB pass before one comes again.
+fn displacing_serves(name: &str, population: Population) -> Work {
+    let calls = || Calls::Serves(DISPLACED, Misses::new(NEW, |i| NEW + 0x2000 * i));
+    Work::new(&format!("served miss with displacement, {name}"), &state(population), TSB_ENTRIES, 1.0, calls)
+}
+
+fn misses() -> Vec<Work> {
+    let one = state(Population::OneGuest);
+    let on_one = |name: &str, calls: fn() -> Calls| Work::new(name, &one, TSB_ENTRIES, 1.0, calls);
+    vec![
+        displacing_serves("one guest", Population::OneGuest),
+        displacing_serves("eight partitions", Population::EightPartitions),
+        on_one("served miss over the same page, full side", || Calls::Serves(DONE, Misses::new(TAG, |_| TAG))),
+        on_one("served miss, another page's entry: not in table", || {
+            Calls::Serves(NOT_IN_TABLE, Misses::new(NEW, |i| ABSENT + 0x2000 * i))
+        }),
+        on_one("hand back", || Calls::HandBacks(Misses::new(NEW, |i| NEW + 0x2000 * i))),
+    ]
+}
+
 /// The first table's works.
 pub fn all() -> Vec<Work> {
     let mut all = lookups();
@@ -255,31 +319,35 @@ pub fn all() -> Vec<Work> {
     all.extend(small());
     all.extend([1, 10, 100, 1_000, 10_000, 100_000].map(growing));
     all.extend(states());
+    all.extend(misses());
     all
 }
 
-/// Short runs on one state.
+/// Short runs, and serves, on one population.
 pub struct Short {
     /// runs without a command
     pub empty: Work,
-    /// hits at random slots, by commands a run
-    pub hits: [(usize, Work); 3],
+    /// by commands a run, hits at random slots; a serve is one
+    pub works: Vec<(usize, Work)>,
 }
 
 /// The second table's works.
 pub fn short() -> Vec<Short> {
-    let on = |name: &str, population| Short {
-        empty: soundness(&format!("full sides, {name}"), f64::INFINITY, state(population)),
-        hits: [1, 4, 16].map(|length| {
+    let on = |name: &str, population| {
+        let hits = [1, 4, 16].map(|length| {
             let of = hits(state(population), length, f64::INFINITY);
             (length, Work { name: format!("{}, {name}", of.name), ..of })
-        }),
+        });
+        Short {
+            empty: soundness(&format!("full sides, {name}"), f64::INFINITY, state(population)),
+            works: hits.into_iter().chain([(1, displacing_serves(name, population))]).collect(),
+        }
     };
     vec![on("one guest", Population::OneGuest), on("eight partitions", Population::EightPartitions)]
 }
 
 /// Both tables' works.
 pub fn every() -> Vec<Work> {
-    let second = short().into_iter().flat_map(|s| s.hits.map(|(_, work)| work).into_iter().chain([s.empty]));
+    let second = short().into_iter().flat_map(|s| s.works.into_iter().map(|(_, work)| work).chain([s.empty]));
     all().into_iter().chain(second).collect()
 }
