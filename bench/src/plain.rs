@@ -153,14 +153,13 @@ fn removal(slots: &mut [Slot; SLOTS], out: Out, goes: impl Fn(&Slot) -> bool) {
     answer(out, [0; 4], count, 0);
 }
 
-/// What has `SERVING` is compiled for runs and again for serves: one copy for both is compiled differently, which moves the rows of runs.
 impl Unit {
-    fn sound<const SERVING: bool>(&self) -> bool {
+    fn sound(&self) -> bool {
         let registers = self.registers.iter().all(|r| r.iter().enumerate().all(|(n, &v)| value_allowed(n, v)));
-        registers && self.sides.iter().all(Unit::side_sound::<SERVING>)
+        registers && self.sides.iter().all(Unit::side_sound)
     }
 
-    fn side_sound<const SERVING: bool>(side: &[Slot; SLOTS]) -> bool {
+    fn side_sound(side: &[Slot; SLOTS]) -> bool {
         if !side.iter().all(Slot::sound) {
             return false;
         }
@@ -242,10 +241,10 @@ impl Unit {
         if flags > 3 {
             return 8;
         }
-        self.put::<false>(b[1], side, flags, word, out)
+        self.put(b[1], side, flags, word, out)
     }
 
-    fn put<const SERVING: bool>(&mut self, strand: u8, side: usize, flags: u8, word: u64, out: Out) -> u8 {
+    fn put(&mut self, strand: u8, side: usize, flags: u8, word: u64, out: Out) -> u8 {
         let r = &self.registers[strand as usize];
         let tag = r[20 + side];
         if !in_range(tag) {
@@ -257,7 +256,7 @@ impl Unit {
         let real = flags & 1 == 1;
         let context = if real { 0 } else { (tag & 0x1FFF) as u16 };
         let new = Slot { page: rounded(tag, word), word, context, partition: r[0] as u8, real, locked: flags & 2 == 2, used: true };
-        place::<SERVING>(&mut self.sides[side], new, out)
+        place(&mut self.sides[side], new, out)
     }
 
     /// 0 where the command was answered, else its refusal.
@@ -350,7 +349,7 @@ impl Unit {
 
     pub fn run(&mut self, input: &[u8], output: &mut [u8]) -> Report {
         let mut report = Report { answered: 0, taken: 0, stop: 0 };
-        if !self.sound::<false>() {
+        if !self.sound() {
             report.stop = 1;
             return report;
         }
@@ -381,7 +380,7 @@ impl Unit {
 
     pub fn hand_back(&self, strand: u8, side: u8, tables: [&[u8]; 2]) -> Part {
         let refused = |number| Part { number, ..Part::default() };
-        if !self.sound::<true>() {
+        if !self.sound() {
             return refused(1);
         }
         if strand > 3 {
@@ -416,7 +415,7 @@ impl Unit {
         let (r, other) = (&self.registers[strand as usize], part.other as usize);
         let entry = &tables[other][part.start..][..part.length];
         if fits(entry, r[20 + side], r[16 + 2 * side + other] & 7) {
-            return self.put::<true>(strand, side, 0, take8(&entry[8..]), out);
+            return self.put(strand, side, 0, take8(&entry[8..]), out);
         }
         answer(out, [6, 0, 0, 0], 0, 0);
         0
@@ -484,7 +483,7 @@ impl Slot {
 }
 
 /// Removes what the new entry overlaps, then the lowest empty slot, the lowest unlocked unused one, or the lowest unlocked one.
-fn place<const SERVING: bool>(slots: &mut [Slot; SLOTS], new: Slot, out: Out) -> u8 {
+fn place(slots: &mut [Slot; SLOTS], new: Slot, out: Out) -> u8 {
     let (mut empty, mut unused, mut unlocked) = (None, None, None);
     for (i, s) in slots.iter_mut().enumerate() {
         if s.live() && s.overlaps(&new) {
