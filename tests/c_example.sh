@@ -6,7 +6,7 @@ source tools/library.bash
 need gcc g++
 need_library
 mkdir -p target/tests
-gcc -std=c99 -Wall -Wextra -Werror -pedantic -Iinclude -o target/tests/printed_run examples/c/printed_run.c "$library"
+gcc -std=c99 -Wall -Wextra -Werror -pedantic -Iinclude -o target/tests/printed_run examples/c/printed_run.c "${library[@]}"
 g++ -Wall -Wextra -Werror -pedantic -fsyntax-only -x c++ include/t1mmu.h
 target/tests/printed_run >target/tests/printed_run.out
 sed -n 's/^< \([0-9a-f]*\)  .*/\1/p; s/^\(end [0-9]* [0-9]* [0-9]*\)  .*/\1/p' target/tests/printed_run.out >target/tests/printed_run.answers

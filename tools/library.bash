@@ -68,22 +68,26 @@ prove() {
     rt check "$@" 2>&1 | tee "$log" | tell_progress "$mark" "${crates[@]}" || tell_failure "$log"
 }
 
-# need_library [PROGRAM ..]: the folder in T1MMU_LIB has a libt1mmu.a that is built; where it is not set, one is proved and built.
-# Leaves T1MMU_LIB set, for cargo's build scripts too, and the archive in `library`. The programs are proved and built as well.
+# need_library [PROGRAM ..]: the folder in T1MMU_LIB has the library's two archives; where it is not set, they are proved and built.
+# Leaves T1MMU_LIB set, for cargo's build scripts too, and the archives in `library`. The programs are proved and built as well.
 need_library() {
+    local crate log=target/library/staticlib.log archives=(t1mmu t1mmu_miss)
     if [ -n "${T1MMU_LIB:-}" ]; then
-        [ -f "$T1MMU_LIB/libt1mmu.a" ] || { echo "missing: libt1mmu.a in $T1MMU_LIB, which T1MMU_LIB names" >&2; exit 1; }
+        for crate in "${archives[@]}"; do
+            [ -f "$T1MMU_LIB/lib$crate.a" ] || { echo "missing: lib$crate.a in $T1MMU_LIB, which T1MMU_LIB names" >&2; exit 1; }
+        done
         T1MMU_LIB=$(realpath "$T1MMU_LIB")
         [ $# = 0 ] || prove "$@"
     else
-        local log=target/library/staticlib.log
         T1MMU_LIB=$PWD/target/staticlib
-        prove t1mmu "$@"
-        if [ ! "$T1MMU_LIB/libt1mmu.a" -nt target/stamp/t1mmu ]; then
-            echo "building libt1mmu.a .." >&2
-            rt staticlib t1mmu >"$log" 2>&1 || tell_failure "$log"
-        fi
+        prove "${archives[@]}" "$@"
+        for crate in "${archives[@]}"; do
+            if [ "$T1MMU_LIB/lib$crate.a" -nt "target/stamp/$crate" ]; then continue; fi
+            echo "building lib$crate.a .." >&2
+            rt staticlib "$crate" >"$log" 2>&1 || tell_failure "$log"
+        done
     fi
-    library=$T1MMU_LIB/libt1mmu.a
+    library=("${archives[@]/#/$T1MMU_LIB/lib}")
+    library=("${library[@]/%/.a}")
     export T1MMU_LIB
 }

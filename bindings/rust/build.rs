@@ -1,4 +1,4 @@
-//! Links libt1mmu.a from the folder in T1MMU_LIB, else from the repository's target/staticlib.
+//! Links the library's two archives from the folder in T1MMU_LIB, else from the repository's target/staticlib.
 use std::env;
 use std::path::PathBuf;
 
@@ -8,11 +8,13 @@ fn main() {
         Some(folder) => PathBuf::from(folder),
         None => PathBuf::from(env::var_os("CARGO_MANIFEST_DIR").expect("cargo sets it")).join("../../target/staticlib"),
     };
-    let archive = folder.join("libt1mmu.a");
-    if !archive.is_file() {
-        println!("cargo:warning={} is not there: `rt staticlib t1mmu` writes it", archive.display());
-    }
-    println!("cargo:rerun-if-changed={}", archive.display());
     println!("cargo:rustc-link-search=native={}", folder.display());
-    println!("cargo:rustc-link-lib=static=t1mmu");
+    for name in ["t1mmu", "t1mmu_miss"] {
+        let archive = folder.join(format!("lib{name}.a"));
+        if !archive.is_file() {
+            println!("cargo:warning={} is not there: `rt staticlib {name}` writes it", archive.display());
+        }
+        println!("cargo:rerun-if-changed={}", archive.display());
+        println!("cargo:rustc-link-lib=static={name}");
+    }
 }

@@ -42,7 +42,7 @@ use Rattle.machine.specs.declared.Removal.the-variants as removal
 use Rattle.machine.specs.declared.Placed.{Placed}
 use Rattle.machine.specs.declared.Placed.the-variants.{Done, Displaced, Refused}
 use Rattle.machine.proofs.Views.{Plain}
-use Rattle.machine.proofs.Insertion.{isRefused, slot-had}
+use Rattle.machine.proofs.Insertion.{isRefused, slot-had, no-slot}
 use Rattle.machine.proofs.Sound.{live-parts, sound-slot}
 use Rattle.machine.specs.declared.Command.{Command}
 use Rattle.machine.specs.declared.Command.the-variants as command
@@ -208,14 +208,7 @@ module _ {n : Counts} {u : State} {l : Ledger} (h : Alike n u l) (side : ℕ) (b
 
   pub insert-refused : hasSlot candidate new (sideOf u side) ≡ false
       → (placed candidate new (sideOf u side) ≡ Refused) × (entered (placed candidate new (sideOf u side)) .ledger ≡ l)
-  insert-refused e =
-      let f : placed candidate new (sideOf u side) ≡ Refused = go (placed candidate new (sideOf u side)) (sym (slot-had candidate new (sideOf u side)) ∙ e) in
-      (f, rw f (insert-agrees Refused f .1))
-    where
-      go : (r : Placed) → not (isRefused r) ≡ false → r ≡ Refused
-      go Done t = clash refl t
-      go (Displaced x) t = clash refl t
-      go Refused t = refl
+  insert-refused e = let f = no-slot candidate new (sideOf u side) e .0 in (f, rw f (insert-agrees Refused f .1))
 
 -- ---- what an access that looks up gets
 looks-past : (l : Ledger) (a : Asked) → looksUp l a ≡ true → anyOf (λ q. q .0) (earlySteps l a) ≡ false

@@ -33,7 +33,6 @@ use Rattle.machine.specs.declared.Placed.{Placed}
 use Rattle.machine.specs.declared.Placed.the-variants.{Done, Displaced, Refused}
 use Rattle.machine.specs.declared.Command.{Command}
 use Rattle.machine.specs.declared.Command.the-variants as command
-use Rattle.machine.specs.declared.Refusal.the-variants as refusal
 use Rattle.machine.specs.declared.Answer.the-variants as answer
 use Rattle.machine.specs.declared.Verdict.{Verdict}
 use Rattle.machine.specs.declared.Verdict.the-variants as verdicts
@@ -125,7 +124,7 @@ number-told n k g c e =
     rw (← (alike-words h), back) (sym (rw t at (step-says n (stateFor n k g) k c h .bytes)))
 
 unsound-served : (n : Counts) (words : List ℕ) (strand side : ℕ) (ofZero ofOther : Bytes) → wordsSound n words ≡ false
-    → servedOf n words strand side ofZero ofOther ≡ record { words = words; answer = answer.Refused refusal.State }
+    → servedOf n words strand side ofZero ofOther ≡ record { words = words; answer = answer.Unsound }
 unfolding servedOf
 unsound-served n words strand side ofZero ofOther e = rw e
 

@@ -108,6 +108,7 @@ isPhysical (answer.Read v w) = false
 isPhysical (answer.Displaced d) = false
 isPhysical (answer.Refused r) = false
 isPhysical answer.NotInTable = false
+isPhysical answer.Unsound = false
 
 no-address : {C : Type 0} {x : Answer} {t : Translation} → isPhysical x ≡ false → x ≡ answer.Physical t → C
 no-address f e = clash (ap isPhysical e) f

@@ -196,6 +196,20 @@ module _ (cand : Slot → Bool) (new : Slot) (s : List Slot) where
       refused t (Cleared i) = refl
       refused t Full = refl
 
+  -- where none is, it comes to a refusal and leaves the slots
+  pub no-slot : hasSlot cand new s ≡ false → (placed cand new s ≡ Refused) × (inserted cand new s ≡ s)
+  unfolding placed inserted
+  no-slot e =
+      let f : (isChosen (choice cand s) || anyOf (overlaps new) s) ≡ false = sym had-choice ∙ e in
+      let apart : anyOf (overlaps new) s ≡ false = or-right (isChosen (choice cand s)) _ f in
+      rw (removed-none (overlaps new) s apart) (go (choice cand s) (or-left _ _ f))
+    where
+      go : (c : Choice) → isChosen c ≡ false → (displacedBy s c ≡ Refused) × (stored new s c ≡ s)
+      go (Empty i) t = clash refl t
+      go (Unused i) t = clash refl t
+      go (Cleared i) t = clash refl t
+      go Full t = (refl, refl)
+
 -- ---- what an insertion comes to
 module _ (cand : Slot → Bool) (new : Slot) (s : List Slot) where
   -- an entry that made way: a candidate of a full side in which none overlapped, in the slot chosen

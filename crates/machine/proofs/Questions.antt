@@ -236,7 +236,7 @@ verdictNumber (Refused r) = refusalNumber r
 -- the verdicts by their numbers
 numbered : List Verdict
 numbered =
-    Passed ∷ Refused refusal.State ∷ Passed ∷ Passed ∷ Passed
+    Passed ∷ Passed ∷ Passed ∷ Passed ∷ Passed
     ∷ Refused refusal.Strand ∷ Refused refusal.Side ∷ Refused refusal.Selector ∷ Refused refusal.Operand ∷ Refused refusal.Register
     ∷ Refused refusal.Value ∷ Refused refusal.Address ∷ Refused refusal.Word ∷ Refused refusal.NoSlot
     ∷ Refused refusal.Table ∷ []
@@ -244,7 +244,6 @@ numbered =
 verdict-back : (v : Verdict) → getD numbered (verdictNumber v) Passed ≡ v
 unfolding numbered
 verdict-back Passed = refl
-verdict-back (Refused refusal.State) = refl
 verdict-back (Refused refusal.Strand) = refl
 verdict-back (Refused refusal.Side) = refl
 verdict-back (Refused refusal.Selector) = refl
@@ -431,6 +430,10 @@ write-bytes u strand number value = line-answer 0 0 0 (omega arith) (omega arith
 pub refused-bytes : (r : Refusal) → answerBytes (answer.Refused r) ≡ line 5 (refusalNumber r) 0 0 0 0
 unfolding answerBytes
 refused-bytes r = line-answer 5 0 0 (refusal-small r) (omega arith) (omega arith)
+
+pub unsound-bytes : answerBytes answer.Unsound ≡ line 5 1 0 0 0 0
+unfolding answerBytes
+unsound-bytes = line-answer 5 0 0 (omega arith) (omega arith) (omega arith)
 
 -- ---- reset
 -- the 128 cells are compared by computing

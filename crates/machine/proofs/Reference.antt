@@ -12,7 +12,7 @@ use Rattle.laws.specs.Passing.{howMany, nonePasses}
 use Rattle.laws.proofs.Bools.{by-test, clash, and-both, and-left, and-right}
 use Rattle.machine.specs.State.{Counts, counts, slotCount, stateWords, State, stateOf, encode, sound, wordsSound, reset, resetOf, resetNumber}
 use Rattle.machine.specs.Stream.{Bytes, answerBytes, Outcome, after, answersBytes, runOf}
-use Rattle.machine.specs.Serve.{missVerdict, partOf, Served, servedOf}
+use Rattle.machine.specs.Serve.{partOf, Served, servedOf}
 use Rattle.machine.specs.Serve as unit
 use Rattle.machine.specs.Ledger.{Entry, Ledger, overlap, unlocked, Name, nameIn, isNamed, firstNo}
 use Rattle.machine.specs.Ledger.{insertionQuestions, questions, lacksSlot, Written, inserts, does, enters}
@@ -23,13 +23,12 @@ use Rattle.machine.specs.Demand3.{unitBytes, fedNext, fedAfter, ledgerBy
 use Rattle.machine.specs.Good.{ReferenceGood}
 use Rattle.machine.specs.Reference.{nameOf, displacedName, referenceNext, referenceAfter, referenceBytes, Leaves}
 use Rattle.machine.specs.Reference.{missName, missNext, ServeLeaves, Hands, RunTold, ServeTold, PartTold, ResetTold, returned, EventsTold, Told}
-use Rattle.machine.specs.declared.Refusal.the-variants as refusal
 use Rattle.machine.specs.declared.Command.{Command}
 use Rattle.machine.specs.declared.Command.the-variants as command
 use Rattle.machine.proofs.State.{reset-sound, sound-encode, words-sound}
 use Rattle.machine.proofs.Runs.{run-unsound}
 use Rattle.machine.proofs.Alike.{ReferenceAlike}
-use Rattle.machine.proofs.Questions.{refused-bytes}
+use Rattle.machine.proofs.Questions.{unsound-bytes}
 use Rattle.machine.proofs.Misses.{hands}
 use Rattle.machine.proofs.Demand3.{ServeAlike, serve-says, step-says, alike-sound, alike-words, commands-agree, read-words}
 use Rattle.machine.proofs.Demand3.{read-answered, read-taken, read-stop, read-front, read-past, start-alike}
@@ -150,7 +149,7 @@ module _ (n : Counts) (k : Reference) (g : ReferenceGood (slotCount n) k) where
     })
 
     part-hands : Hands (k .ledger) strand side ofZero ofOther (partOf n (referenceWords k) strand side ofZero ofOther)
-    unfolding partOf missVerdict
+    unfolding partOf
     part-hands = rw (← (alike-words alike), words-sound n u good-sound, sound-encode n u good-sound) (hands (alike .ledger) strand side ofZero ofOther)
 
   -- ---- a run
@@ -196,13 +195,13 @@ serve-told : (n : Counts) (words : List ℕ) (strand side : ℕ) (ofZero ofOther
     ServeTold (slotCount n) words strand side ofZero ofOther (o .words) (answerBytes (o .answer))
 unfolding servedOf
 serve-told n words strand side ofZero ofOther = record {
-  unsound = λ f. rw (unsound-words n words f) (refl, refused-bytes refusal.State);
+  unsound = λ f. rw (unsound-words n words f) (refl, unsound-bytes);
   sound = λ k g e. rw e (serve-leaves n k g strand side ofZero ofOther);
 }
 
 part-told : (n : Counts) (words : List ℕ) (strand side : ℕ) (ofZero ofOther : Bytes)
     → PartTold (slotCount n) words strand side ofZero ofOther (partOf n words strand side ofZero ofOther)
-unfolding partOf missVerdict
+unfolding partOf
 part-told n words strand side ofZero ofOther = record {
   unsound = λ f. rw (unsound-words n words f);
   sound = λ k g e. rw e (part-hands n k g strand side ofZero ofOther);

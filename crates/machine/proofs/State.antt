@@ -35,7 +35,7 @@ use Rattle.machine.specs.declared.Prepared.{Prepared}
 use Rattle.machine.specs.declared.Prepared.the-variants as prepared
 use Rattle.machine.specs.declared.Judged.{Judged}
 use Rattle.machine.specs.declared.Judged.the-variants as judged
-use Rattle.machine.specs.Step.{demap, act, stepBy, step}
+use Rattle.machine.specs.Step.{demap, act, stepBy, step, insertStep}
 use Rattle.machine.specs.declared.Slot.{Slot}
 use Rattle.machine.specs.declared.Key.{Key}
 use Rattle.machine.specs.declared.Removal.{Removal}
@@ -47,7 +47,7 @@ use Rattle.machine.specs.declared.Verdict.{Verdict}
 use Rattle.machine.specs.declared.Verdict.the-variants.{Passed, Refused}
 use Rattle.machine.proofs.Words.{insertable-sound}
 use Rattle.machine.proofs.Slots.{words-back, slots-back, words-length}
-use Rattle.machine.proofs.Insertion.{length-removed, length-inserted}
+use Rattle.machine.proofs.Insertion.{length-removed, length-inserted, no-slot}
 use Rattle.machine.proofs.Used.{SameSlots, found-slots}
 use Rattle.machine.proofs.Sound.{entry-sound, empty-sound, sound-removed, sound-set-used, sound-inserted}
 
@@ -259,6 +259,16 @@ unfolding asked askedInsertion allOf
 insert-insertable u strand side flags word h =
     let q = passed-asked u (command.Insert strand side flags word) h in
     (search conj, search conj, record { address = search conj; tte = search conj; slot = search conj })
+
+-- number 13 asks what the insertion would come to: one that 11 and 12 let pass may act unasked
+pub insert-acts : (u : State) (strand side flags word : ℕ) → inRange (tagAddress (tagAccess (u .registers) strand side) .0) ≡ true
+    → wordInsertable word ≡ true → insertStep u strand side flags word ≡ act u (command.Insert strand side flags word)
+unfolding insertStep askedInsertion ask act
+insert-acts u strand side flags word a w =
+    let new : Slot = insertion u strand side flags word in
+    rw (a, w) (by-test (hasSlot candidate new (sideOf u side))
+    (λ t. rw t)
+    (λ t. let (p, i) = no-slot candidate new (sideOf u side) t in rw (t, p, i) (by-test (eqb side 0) (λ z. rw z) (λ z. rw z))))
 
 pub known-below : (number : ℕ) → known number ≡ true → number < 26
 unfolding known

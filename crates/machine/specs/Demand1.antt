@@ -13,7 +13,6 @@ use Rattle.machine.specs.Places.{Reference, referenceWords}
 use Rattle.machine.specs.Demand3.{unitBytes}
 use Rattle.machine.specs.Good.{ReferenceGood, GoodWords}
 use Rattle.machine.specs.declared.Command.{Command}
-use Rattle.machine.specs.declared.Refusal.the-variants as refusal
 use Rattle.machine.specs.declared.Answer.the-variants as answer
 
 pub record Demand1 : Type 0 where
@@ -31,7 +30,7 @@ pub record Demand1 : Type 0 where
       drop (o .answered * 24) (o .output) ≡ drop (o .answered * 24) output
   -- a served miss: words that are not sound stay; and so does the state where the answer is a refusal or "not in table"
   pub missUnsound : (n : Counts) (words : List ℕ) (strand side : ℕ) (ofZero ofOther : Bytes) → (GoodWords (slotCount n) words → ⊥)
-      → servedOf n words strand side ofZero ofOther ≡ record { words = words; answer = answer.Refused refusal.State }
+      → servedOf n words strand side ofZero ofOther ≡ record { words = words; answer = answer.Unsound }
   pub missRefused : (n : Counts) (u : State) (strand side : ℕ) (ofZero ofOther : Bytes) → sound n u ≡ true
       → 5 ≤ getD (answerBytes (serve u strand side ofZero ofOther .answer)) 0 0
       → serve u strand side ofZero ofOther .state ≡ u

@@ -22,7 +22,6 @@ use Rattle.machine.specs.declared.Verdict.the-variants.{Passed, Refused}
 
 -- the document's number of a refusal
 abbrev pub refusalNumber : Refusal → ℕ
-refusalNumber refusal.State = 1
 refusalNumber refusal.Strand = 5
 refusalNumber refusal.Side = 6
 refusalNumber refusal.Selector = 7

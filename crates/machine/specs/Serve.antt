@@ -46,20 +46,21 @@ askedTable u strand side ofZero ofOther =
     ∷ question refusal.Table (eqb (length (tableUsed (u .registers) strand side ofZero ofOther)) (tableLength (u .registers) strand side))
     ∷ []
 
--- number 1 is asked before them, of any words
-unfoldable pub missVerdict : Counts → List ℕ → ℕ → ℕ → Bytes → Bytes → Verdict
-missVerdict n words strand side ofZero ofOther =
-    cond (wordsSound n words) (ask (askedTable (stateOf n words) strand side ofZero ofOther)) (Refused refusal.State)
-
 -- ---- handing back
+-- a number, and nothing
+abbrev pub noPart : ℕ → Part
+noPart number = record { number = number; other = 0; start = 0; length = 0 }
+
 abbrev pub partBy : Verdict → List ℕ → ℕ → ℕ → Part
 partBy Passed file strand side =
     record { number = 0; other = cond (isZeroContext file strand side) 0 1; start = entryStart file strand side; length = 16 }
-partBy (Refused r) file strand side = record { number = refusalNumber r; other = 0; start = 0; length = 0 }
+partBy (Refused r) file strand side = noPart (refusalNumber r)
 
--- which part of which table; empty where a question refused
+-- which part of which table, of any words: number 1 is asked first
 unfoldable pub partOf : Counts → List ℕ → ℕ → ℕ → Bytes → Bytes → Part
-partOf n words strand side ofZero ofOther = partBy (missVerdict n words strand side ofZero ofOther) (stateOf n words .registers) strand side
+partOf n words strand side ofZero ofOther =
+    let u : State = stateOf n words in
+    cond (wordsSound n words) (partBy (ask (askedTable u strand side ofZero ofOther)) (u .registers) strand side) (noPart 1)
 
 -- and its bytes
 abbrev pub partBytes : Part → Bytes → Bytes → Bytes
@@ -112,4 +113,4 @@ unfoldable pub servedOf : Counts → List ℕ → ℕ → ℕ → Bytes → Byte
 servedOf n words strand side ofZero ofOther =
     cond (wordsSound n words)
     (servedAs (serve (stateOf n words) strand side ofZero ofOther))
-    (record { words = words; answer = answer.Refused refusal.State })
+    (record { words = words; answer = answer.Unsound })

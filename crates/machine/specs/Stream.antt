@@ -102,6 +102,8 @@ fieldsOf (answer.Displaced d) = fields 4 0 (d .partition) (tick (d .real)) (d .p
 fieldsOf (answer.Refused r) = fields 5 (refusalNumber r) 0 0 0 0
 -- not in table (document 02, U1)
 fieldsOf answer.NotInTable = fields 6 0 0 0 0 0
+-- refused: number 1
+fieldsOf answer.Unsound = fields 5 1 0 0 0 0
 
 unfoldable pub answerBytes : Answer → Bytes
 answerBytes x = let f : Fields = fieldsOf x in answerOf (f .kind) (f .a) (f .b) (f .c) (f .first) (f .second)

@@ -194,9 +194,8 @@ pub enum Command {
     },
 }
 
-// Why a command that was taken did not act (5 to 13), or a call on a miss (1, 5, 6, 11 to 14): by their numbers.
+// Why a command that was taken did not act: numbers 5 to 13, in their order; and 14, of a miss alone.
 pub enum Refusal {
-    State,
     Strand,
     Side,
     Selector,
@@ -286,7 +285,9 @@ pub enum Answer {
     Read(u64, u64),
     Displaced(Displaced),
     Refused(Refusal),
+    // of a served miss alone: the entry does not fit; the state is not sound (number 1, for which a run has its stop)
     NotInTable,
+    Unsound,
 }
 
 // What stands at a position of the stream: a command and its width, or the number that ends the run.

@@ -1,8 +1,8 @@
--- What the verdict on a miss comes to: where it passed, the entry lies within the table used, is handed back and decides; a refusal changes nothing.
+-- What the questions of a miss come to: where they passed, the entry lies within the table used, is handed back and decides; a refusal changes nothing.
 -- Assumes nothing.
 use Prim.Native.Nat.{ℕ, _+_, _*_, _^_, _<_, _≤_}
 use mathlib.Core.Path.{_≡_, ap, _∙_}
-use mathlib.Core.Bool.{true}
+use mathlib.Core.Bool.{true, false}
 use mathlib.Core.List.{List}
 use native.Mathlib.Nat.{add-zero, add-assoc}
 use native.Mathlib.Omega.{arith}
@@ -11,16 +11,15 @@ use lib.Pow.{pow-mono}
 use lib.Seq.{getD-take, getD-drop}
 use Rattle.laws.proofs.Bools.{by-test}
 use Rattle.machine.specs.State.{counts, stateIn, wordsSound}
+use Rattle.machine.specs.Questions.{ask}
 use Rattle.machine.specs.Stream.{Bytes, byte, eight}
-use Rattle.machine.specs.Serve.{isZeroContext, tableUsed, entryStart, askedTable, missVerdict, partBy, partBytes}
+use Rattle.machine.specs.Serve.{isZeroContext, tableUsed, entryStart, askedTable, partBy, partBytes}
 use Rattle.machine.specs.Serve.{serveEntry, serve, servedAs, servedOf}
 use Rattle.machine.specs.declared.Refusal.{Refusal}
-use Rattle.machine.specs.declared.Refusal.the-variants as refusal
 use Rattle.machine.specs.declared.Answer.the-variants as answer
 use Rattle.machine.specs.declared.Verdict.the-variants.{Passed, Refused}
 use Rattle.machine.proofs.State.{encode-state, sound-words}
 use Rattle.machine.proofs.Misses.{table-lent, entry-within}
-use Rattle.questions.proofs.Asks.{Left, every}
 use Rattle.miss_handler.specs.Ready.{Ready, entryBytes}
 
 -- a table's length fits a word
@@ -48,49 +47,33 @@ entry-tag : (table : Bytes) (start : ℕ) → eight (take 16 (drop start table))
 entry-tag table start = entry-eight table start 0 (omega arith) ∙ ap (eight table) (add-zero start)
 
 module _ (words : List ℕ) (strand side : ℕ) (ofZero ofOther : Bytes) where
-  -- on sound words the three questions of the table decide
-  pub sound-asked : wordsSound counts words ≡ true
-      → Left (missVerdict counts words strand side ofZero ofOther) (askedTable (stateIn words) strand side ofZero ofOther)
-  unfolding missVerdict
-  sound-asked e = rw e (every _)
-
-  passed-sound : missVerdict counts words strand side ofZero ofOther ≡ Passed → wordsSound counts words ≡ true
-  unfolding missVerdict
-  passed-sound h = by-test (wordsSound counts words)
-      (λ e. e)
-      (λ e. let r : Refused refusal.State ≡ Passed = rw e at h in absurd (let z : _≡_ {A = ℕ} 0 1 = cc in omega arith))
-
-  pub miss-ready : missVerdict counts words strand side ofZero ofOther ≡ Passed → Ready words strand side ofZero ofOther
-  unfolding missVerdict
-  miss-ready h =
-      let e = passed-sound h in
+  pub miss-ready : wordsSound counts words ≡ true → ask (askedTable (stateIn words) strand side ofZero ofOther) ≡ Passed
+      → Ready words strand side ofZero ofOther
+  miss-ready e h =
       let (s, l) = sound-words counts words e in
-      let t = table-lent (stateIn words) strand side ofZero ofOther (rw e at h) in
+      let t = table-lent (stateIn words) strand side ofZero ofOther h in
       record { lent = l; sound = s; strands = t .strands; sides = t .sides; table = t .size }
 
   pub entry-in-table : Ready words strand side ofZero ofOther
       → entryStart (stateIn words .registers) strand side + 16 ≤ length (tableUsed (stateIn words .registers) strand side ofZero ofOther)
   entry-in-table r = rw (r .table) (entry-within _ _ _)
 
-  -- a refusal leaves the words
-  pub served-refused : {r : Refusal} → missVerdict counts words strand side ofZero ofOther ≡ Refused r
+  -- number 1 and a refusal leave the words
+  pub served-unsound : wordsSound counts words ≡ false → servedOf counts words strand side ofZero ofOther ≡ record { words = words; answer = answer.Unsound }
+  unfolding servedOf
+  served-unsound e = rw e
+
+  pub served-refused : {r : Refusal} → wordsSound counts words ≡ true → ask (askedTable (stateIn words) strand side ofZero ofOther) ≡ Refused r
       → servedOf counts words strand side ofZero ofOther ≡ record { words = words; answer = answer.Refused r }
-  unfolding missVerdict servedOf serve
-  served-refused {r} h = by-test (wordsSound counts words)
-      (λ e. rw (e, rw e at h, encode-state counts words (sound-words counts words e .1)))
-      (λ e.
-      let same : Refused refusal.State ≡ Refused r = rw e at h in
-      let s : refusal.State ≡ r = cc in
-      rw (e, ← s))
+  unfolding servedOf serve
+  served-refused e h = rw (e, h, encode-state counts words (sound-words counts words e .1))
 
   -- else the entry decides: its tag, then its word
-  pub served-passed : missVerdict counts words strand side ofZero ofOther ≡ Passed →
+  pub served-passed : wordsSound counts words ≡ true → ask (askedTable (stateIn words) strand side ofZero ofOther) ≡ Passed →
       let entry : Bytes = entryBytes (stateIn words .registers) strand side ofZero ofOther in
       servedOf counts words strand side ofZero ofOther ≡ servedAs (serveEntry (stateIn words) strand side (eight entry 0) (eight entry 8))
-  unfolding missVerdict servedOf serve
-  served-passed h =
-      let e = passed-sound h in
-      rw (e, rw e at h, entry-tag, entry-eight _ _ 8 (omega arith))
+  unfolding servedOf serve
+  served-passed e h = rw (e, h, entry-tag, entry-eight _ _ 8 (omega arith))
 
 -- the part that is handed back of a miss that passed
 pub part-entry : (file : List ℕ) (strand side : ℕ) (ofZero ofOther : Bytes)

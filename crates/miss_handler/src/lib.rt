@@ -6,7 +6,8 @@ ghost use lib.Dec.{eqb};
 ghost use lib.ListN.{length};
 ghost use Rattle.machine.specs.Words.{bits};
 ghost use Rattle.machine.specs.State.{counts, stateIn};
-ghost use Rattle.machine.specs.Serve.{tableUsed, tableN, tableLength, entryStart, missVerdict, partOf, partBytes};
+ghost use Rattle.machine.specs.Questions.{ask};
+ghost use Rattle.machine.specs.Serve.{tableUsed, tableN, tableLength, entryStart, askedTable, noPart, partOf, partBytes};
 ghost use Rattle.machine.specs.Serve.{tagFits, wordFits, entryFits, serveEntry, servedOf};
 ghost use Rattle.state.specs.Calls.{Lent, SoundIn, Did};
 ghost use Rattle.miss_handler.specs.Ready.{Ready, entryBytes};
@@ -57,13 +58,12 @@ fn entry_start(state: &[u64], strand: u8, side: u8) -> usize
     tsb::offset_in_tsb(n, code, address) as usize
 }
 
-// Numbers 1, 5, 6 and 14.
-fn ask_miss<'a>(state: &[u64], strand: u8, side: u8, zero: &'a [u8], other: &'a [u8]) -> Verdict
-    ensures { λ r. ⌜ r ≡ missVerdict counts (now (state .entry)) strand side (now (zero .entry)) (now (other .entry)) ⌝ }
+// Numbers 5, 6 and 14.
+fn ask_table<'a>(state: &[u64], strand: u8, side: u8, zero: &'a [u8], other: &'a [u8]) -> Verdict
+    requires { ⌜ Lent (now state) ⌝ }
+    ensures { λ r. ⌜ r ≡ ask (askedTable (stateIn (now (state .entry))) strand side
+        (now (zero .entry)) (now (other .entry))) ⌝ }
 {
-    if !state::state_sound(state) {
-        return Verdict::Refused(Refusal::State);
-    }
     if 4 <= strand {
         return Verdict::Refused(Refusal::Strand);
     }
@@ -104,24 +104,37 @@ pub fn hand_back<'a>(
         (partOf counts (now (state .entry)) strand side (now (zero .entry)) (now (other .entry)))
         (now (zero .entry)) (now (other .entry)) ⌝ }
 {
-    if let Verdict::Refused(_) = ask_miss(state, strand, side, zero, other) {
+    if !state::state_sound(state) {
+        return &zero[0..0];
+    }
+    if let Verdict::Refused(_) = ask_table(state, strand, side, zero, other) {
         return &zero[0..0];
     }
     entry_of(state, strand, side, zero, other)
+}
+
+// A number, and nothing.
+fn no_part(number: u8) -> Part
+    ensures { λ r. ⌜ r ≡ noPart number ⌝ }
+{
+    Part {
+        number,
+        other: 0,
+        start: 0,
+        length: 0,
+    }
 }
 
 // The same part, as which table, where in it and how long, with the number of a refusal.
 pub fn part_of<'a>(state: &[u64], strand: u8, side: u8, zero: &'a [u8], other: &'a [u8]) -> Part
     ensures { λ r. ⌜ r ≡ partOf counts (now (state .entry)) strand side (now (zero .entry)) (now (other .entry)) ⌝ }
 {
-    if let Verdict::Refused(refusal) = ask_miss(state, strand, side, zero, other) {
+    if !state::state_sound(state) {
+        return no_part(1);
+    }
+    if let Verdict::Refused(refusal) = ask_table(state, strand, side, zero, other) {
         let number = numbers::refusal_number(refusal) as u8;
-        return Part {
-            number,
-            other: 0,
-            start: 0,
-            length: 0,
-        };
+        return no_part(number);
     }
     let context = tsb::miss_context(state, strand, side);
     Part {
@@ -191,7 +204,10 @@ pub fn serve<'a>(state: &mut [u64], strand: u8, side: u8, zero: &'a [u8], other:
     ensures answer { λ r. ⌜ r ≡
         servedOf counts (now (state .entry)) strand side (now (zero .entry)) (now (other .entry)) .answer ⌝ }
 {
-    if let Verdict::Refused(refusal) = ask_miss(state, strand, side, zero, other) {
+    if !state::state_sound(state) {
+        return Answer::Unsound;
+    }
+    if let Verdict::Refused(refusal) = ask_table(state, strand, side, zero, other) {
         return Answer::Refused(refusal);
     }
     let entry = entry_of(state, strand, side, zero, other);

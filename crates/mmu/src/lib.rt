@@ -53,16 +53,20 @@ fn act_insert(state: &mut [u64], strand: u8, side: u8, flags: u8, word: u64) -> 
     placed_to_answer(placed)
 }
 
-// An insertion from number 11 on: what a command's comes to once 5, 6 and 8 passed, and a served miss's.
+// An insertion from number 11 on, for a served miss.
 pub fn insert(state: &mut [u64], strand: u8, side: u8, flags: u8, word: u64) -> Answer
     requires { ⌜ Lent (now state) × SoundIn (now state) × (strand < 4) × (side < 2) ⌝ }
     ensures { λ r. ⌜ Did (now (state .exit)) r
         (insertStep (stateIn (now (state .entry))) strand side flags word) ⌝ }
 {
-    match questions::ask_insertion(state, strand, side, flags, word) {
-        Verdict::Passed => act_insert(state, strand, side, flags, word),
-        Verdict::Refused(refusal) => Answer::Refused(refusal),
+    if !pages::in_range(operands::tag_address(operands::tag_of(state, strand, side)).0) {
+        return Answer::Refused(Refusal::Address);
     }
+    if !tte::word_insertable(word) {
+        return Answer::Refused(Refusal::Word);
+    }
+    // 13 is what the insertion itself comes to: without a slot it changes nothing
+    act_insert(state, strand, side, flags, word)
 }
 
 // A demap answers how many entries it removed.

@@ -42,7 +42,6 @@ pub fn refusal_number(refusal: Refusal) -> u64
     ensures { λ r. ⌜ r ≡ refusalNumber refusal ⌝ }
 {
     match refusal {
-        Refusal::State => 1,
         Refusal::Strand => 5,
         Refusal::Side => 6,
         Refusal::Selector => 7,

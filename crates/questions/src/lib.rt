@@ -3,7 +3,7 @@ ghost use mathlib.Core.Path.{_≡_};
 ghost use Prim.Native.Nat.{_<_};
 ghost use Rattle.machine.specs.State.{stateIn};
 ghost use Rattle.state.specs.Calls.{Lent};
-ghost use Rattle.machine.specs.Questions.{selectorFits, nucleusFetch, sizeFits, askedInsertion, ask, verdict};
+ghost use Rattle.machine.specs.Questions.{selectorFits, nucleusFetch, sizeFits, verdict};
 ghost use Rattle.machine.specs.declared.Command.the-variants as command;
 use machine::Command;
 use machine::Refusal;
@@ -48,11 +48,19 @@ fn ask_write(state: &[u64], strand: u8, number: u8, value: u64) -> Verdict
     Verdict::Passed
 }
 
-// Numbers 11 to 13, which every insertion ends in.
-pub fn ask_insertion(state: &[u64], strand: u8, side: u8, flags: u8, word: u64) -> Verdict
-    requires { ⌜ Lent (now state) × (strand < 4) × (side < 2) ⌝ }
-    ensures { λ r. ⌜ r ≡ ask (askedInsertion (stateIn (now (state .entry))) strand side flags word) ⌝ }
+fn ask_insert(state: &[u64], strand: u8, side: u8, flags: u8, word: u64) -> Verdict
+    requires { ⌜ Lent (now state) ⌝ }
+    ensures { λ r. ⌜ r ≡ verdict (stateIn (now (state .entry))) (command.Insert strand side flags word) ⌝ }
 {
+    if 4 <= strand {
+        return Verdict::Refused(Refusal::Strand);
+    }
+    if 2 <= side {
+        return Verdict::Refused(Refusal::Side);
+    }
+    if 4 <= flags {
+        return Verdict::Refused(Refusal::Operand);
+    }
     if !pages::in_range(operands::tag_address(operands::tag_of(state, strand, side)).0) {
         return Verdict::Refused(Refusal::Address);
     }
@@ -67,22 +75,6 @@ pub fn ask_insertion(state: &[u64], strand: u8, side: u8, flags: u8, word: u64) 
         return Verdict::Refused(Refusal::NoSlot);
     }
     Verdict::Passed
-}
-
-fn ask_insert(state: &[u64], strand: u8, side: u8, flags: u8, word: u64) -> Verdict
-    requires { ⌜ Lent (now state) ⌝ }
-    ensures { λ r. ⌜ r ≡ verdict (stateIn (now (state .entry))) (command.Insert strand side flags word) ⌝ }
-{
-    if 4 <= strand {
-        return Verdict::Refused(Refusal::Strand);
-    }
-    if 2 <= side {
-        return Verdict::Refused(Refusal::Side);
-    }
-    if 4 <= flags {
-        return Verdict::Refused(Refusal::Operand);
-    }
-    ask_insertion(state, strand, side, flags, word)
 }
 
 fn ask_demap_page(

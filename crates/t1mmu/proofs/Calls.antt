@@ -1,19 +1,16 @@
 -- From what the crates below ensure to what the calls promise: the theorems of `machine`, put to one call. Assumes nothing.
 use Prim.Native.Nat.{ℕ}
-use mathlib.Core.Path.{_≡_, ap, sym, subst, _∙_}
+use mathlib.Core.Path.{_≡_, ap, sym, subst}
 use mathlib.Core.Bool.{true}
 use mathlib.Core.List.{List}
 use Rattle.machine.specs.State.{counts, resetOf, resetNumber}
-use Rattle.machine.specs.Stream.{Bytes, answerBytes, Outcome, outcome, runOf}
-use Rattle.machine.specs.Serve.{partOf, servedOf}
+use Rattle.machine.specs.Stream.{Bytes, Outcome, outcome, runOf}
 use Rattle.machine.specs.Words.{unpacked, packed, fields}
 use Rattle.machine.specs.Places.{slots}
-use Rattle.machine.specs.Reference.{RunTold, ServeTold, PartTold, ResetTold, returned, Told}
+use Rattle.machine.specs.Reference.{RunTold, ResetTold, returned, Told}
 use Rattle.machine.specs.Demand2.{IsBits, HasBits, Fields}
 use Rattle.machine.specs.Demand3.{Demand3}
-use Rattle.machine.specs.declared.Part.{Part}
 use Rattle.machine.specs.declared.Report.{Report}
-use Rattle.machine.specs.declared.Answer.{Answer}
 use Rattle.machine.specs.declared.Tte.{Tte}
 use Rattle.machine.proofs.Demand2.{demand2}
 use Rattle.machine.proofs.Demand3.{demand3}
@@ -34,21 +31,6 @@ run-call words input output left written r e =
     let as-told : RunTold slots words input output left written r =
     subst (λ (o : Outcome). RunTold slots words input output (o .words) (o .output) (returned o)) (sym e) (sold .run words input output) in
     (as-told, (equal, (sold, demand3 counts)))
-
--- a part that is the unit's
-pub part-call : (words : List ℕ) (strand side : ℕ) (zero other : Bytes) (r : Part) → r ≡ partOf counts words strand side zero other
-    → PartTold slots words strand side zero other r × (r ≡ partOf counts words strand side zero other)
-part-call words strand side zero other r e = (rw e (sold .part words strand side zero other), e)
-
--- a served miss that comes to the unit's words and answer
-pub serve-call : (words : List ℕ) (strand side : ℕ) (zero other : Bytes) (left : List ℕ) (given : Answer) (b : Bytes)
-    → left ≡ servedOf counts words strand side zero other .words → given ≡ servedOf counts words strand side zero other .answer → b ≡ answerBytes given
-    → ServeTold slots words strand side zero other left b
-    × ((left ≡ servedOf counts words strand side zero other .words)
-    × ((b ≡ answerBytes (servedOf counts words strand side zero other .answer)) × (Told counts slots × Demand3 counts)))
-serve-call words strand side zero other left given b e f g =
-    let bytes : b ≡ answerBytes (servedOf counts words strand side zero other .answer) = g ∙ ap answerBytes f in
-    (rw (e, bytes) (sold .serve words strand side zero other), (e, (bytes, (sold, demand3 counts))))
 
 -- a reset that comes to the unit's
 pub reset-call : (words left : List ℕ) (number : ℕ) → left ≡ resetOf counts words → number ≡ resetNumber counts words

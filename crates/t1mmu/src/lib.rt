@@ -5,16 +5,14 @@ ghost use mathlib.Core.Path.{_≡_};
 ghost use mathlib.Core.Bool.{true};
 ghost use lib.ListN.{length};
 ghost use Rattle.machine.specs.State.{counts, stateLength, resetOf, resetNumber};
-ghost use Rattle.machine.specs.Stream.{answerBytes, runOf};
-ghost use Rattle.machine.specs.Serve.{partOf, servedOf};
+ghost use Rattle.machine.specs.Stream.{runOf};
 ghost use Rattle.machine.specs.Words.{unpacked, packed, fields};
 ghost use Rattle.machine.specs.Places.{slots, referenceStart, referenceWords};
-ghost use Rattle.machine.specs.Reference.{RunTold, ServeTold, PartTold, ResetTold, Told};
+ghost use Rattle.machine.specs.Reference.{RunTold, ResetTold, Told};
 ghost use Rattle.machine.specs.Demand2.{IsBits, HasBits, Fields};
 ghost use Rattle.machine.specs.Demand3.{Demand3};
 ghost use Rattle.t1mmu.specs.Equal.{Equal};
 ghost use Rattle.t1mmu.specs.Version.{version};
-use machine::Part;
 use machine::Report;
 use machine::Tte;
 
@@ -57,52 +55,6 @@ pub extern "C" fn t1mmu_run(state: &mut [u64], input: &[u8], output: &mut [u8]) 
     ensures demand3 { λ r. ⌜ Demand3 counts ⌝ }
 {
     stream::run(state, input, output)
-}
-
-// Which part of which table is the entry of a miss; or a number and an empty part. It changes nothing.
-#[no_mangle]
-pub extern "C" fn t1mmu_hand_back<'a>(
-    state: &[u64],
-    strand: u8,
-    side: u8,
-    zero: &'a [u8],
-    other: &'a [u8],
-) -> Part
-    ensures told { λ r. ⌜ PartTold slots (now (state .entry)) strand side (now (zero .entry)) (now (other .entry)) r ⌝ }
-    ensures equal { λ r. ⌜ r ≡ partOf counts (now (state .entry)) strand side (now (zero .entry)) (now (other .entry)) ⌝ }
-{
-    miss_handler::part_of(state, strand, side, zero, other)
-}
-
-// The bytes of an answer, as C can be given them.
-#[repr(C)]
-pub struct Answered {
-    pub bytes: [u8; machine::ANSWER_BYTES],
-}
-
-// Serves a miss from one of two tables. The clauses are those of a run: what the ledger with its places tells, what the unit's definition
-// comes to, and both over every list of runs and served misses.
-#[no_mangle]
-pub extern "C" fn t1mmu_serve<'a>(
-    state: &mut [u64],
-    strand: u8,
-    side: u8,
-    zero: &'a [u8],
-    other: &'a [u8],
-) -> Answered
-    ensures told { λ r. ⌜ ServeTold slots (now (state .entry)) strand side (now (zero .entry)) (now (other .entry))
-        (now (state .exit)) (r .bytes) ⌝ }
-    ensures words { λ r. ⌜ now (state .exit)
-        ≡ servedOf counts (now (state .entry)) strand side (now (zero .entry)) (now (other .entry)) .words ⌝ }
-    ensures bytes { λ r. ⌜ r .bytes
-        ≡ answerBytes (servedOf counts (now (state .entry)) strand side (now (zero .entry)) (now (other .entry)) .answer) ⌝ }
-    ensures lists { λ r. ⌜ Told counts slots ⌝ }
-    ensures demand3 { λ r. ⌜ Demand3 counts ⌝ }
-{
-    let answer = miss_handler::serve(state, strand, side, zero, other);
-    Answered {
-        bytes: wire::answer_bytes(answer),
-    }
 }
 
 // All fields of an entry word. Packed again they are the word.

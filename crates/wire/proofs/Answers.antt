@@ -47,6 +47,7 @@ kind-small (answer.Read v w) = omega arith
 kind-small (answer.Displaced d) = omega arith
 kind-small (answer.Refused r) = omega arith
 kind-small answer.NotInTable = omega arith
+kind-small answer.Unsound = omega arith
 
 -- the bytes of an answer's three words are the answer's
 answer-bytes : (a : Answer) → let f = fieldsOf a in bytes (answerWords f .head) ++ (bytes (f .first) ++ bytes (f .second)) ≡ answerBytes a

@@ -266,6 +266,11 @@ fn words_of(answer: Answer) -> AnswerWords
             first: 0,
             second: 0,
         },
+        Answer::Unsound => AnswerWords {
+            head: head_word(5, 1, 0, 0),
+            first: 0,
+            second: 0,
+        },
     }
 }
 

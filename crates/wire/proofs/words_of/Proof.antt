@@ -25,6 +25,9 @@ returns-6 c = rw (c .before .before .before .answer6 .given .1, c .head-word5 .e
 returns-7 : tie.Need-returns-7
 returns-7 c = rw (c .before .enum-told .given .1, c .head-word6 .ensures)
 
+returns-8 : tie.Need-returns-8
+returns-8 c = rw (c .before .enum-told2 .given .1, c .head-word7 .ensures)
+
 pub words-of-spec : {M : Type 1} → statement M
 words-of-spec =
     tie.close
@@ -45,10 +48,13 @@ words-of-spec =
     (λ c κs. search needs)
     (λ c. search needs)
     (λ c κs. search needs)
+    (λ c. search needs)
+    (λ c κs. search needs)
     returns
     returns-2
     returns-3
     returns-4
     returns-5
     returns-6
-    returns-7)
+    returns-7
+    returns-8)

@@ -1,8 +1,8 @@
 -- `t1mmu::t1mmu_serve` meets its contract, by what `miss_handler::serve` ensures.
 use borrow.Author.Needs.{needs}
-use Rattle.t1mmu.proofs.Calls.{serve-call}
-use Rattle.t1mmu.proofs.t1mmu_serve.Statement.{statement}
-use Rattle.t1mmu.proofs.t1mmu_serve.Tie as tie
+use Rattle.t1mmu_miss.proofs.Calls.{serve-call}
+use Rattle.t1mmu_miss.proofs.t1mmu_serve.Statement.{statement}
+use Rattle.t1mmu_miss.proofs.t1mmu_serve.Tie as tie
 
 returns : tie.Need-returns
 returns c =
