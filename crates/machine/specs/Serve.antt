@@ -1,4 +1,4 @@
--- Document 02, U1: a miss served from the guest's TSB, which the caller lends as two tables, for context zero and for the others.
+-- Document 02, U1: a miss served from the guest's TSB. The caller lends it as two tables: of context zero, and of every other context.
 -- Assumes nothing.
 use Prim.Native.Nat.{ℕ, _+_, _*_, _/_, _%_, _^_}
 use mathlib.Core.Bool.{Bool, cond, _&&_}
