@@ -251,7 +251,7 @@ struct t1mmu_report t1mmu_run(uint64_t *state, size_t words, const uint8_t *inpu
  * 16 * ((address / page size) mod 2^(9 + N)) of its table: at the ps0 pointer of command 0x09, less the table's address, which plays no part.
  * Tables are only read; they may be the same range, or overlap. A table of length 0 may be null.
  *
- * Number 1, whether the state is sound, is asked at each call, at the cost of some two dozen hits: far more than all else in it.
+ * Number 1, whether the state is sound, is asked at each call, at the cost of some two dozen hits: most of what the call takes.
  */
 
 /*
