@@ -5,6 +5,7 @@ ghost use Prim.Native.Nat.{_+_, _%_, _^_, _<_, _≤_};
 ghost use lib.Dec.{eqb};
 ghost use Rattle.laws.specs.declared.Found.the-variants.{At, Nothing};
 ghost use Rattle.machine.specs.Words.{bits};
+ghost use Rattle.machine.specs.Slots.{KeyFits};
 ghost use Rattle.machine.specs.Registers.{withRegister, translates};
 ghost use Rattle.machine.specs.State.{stateIn, encode, withRegisters};
 ghost use Rattle.state.specs.Calls.{Lent, SoundIn, Did};
@@ -14,7 +15,7 @@ ghost use Rattle.machine.specs.Access.{settle, accessTo};
 ghost use Rattle.machine.specs.declared.Prepared.the-variants.{Lookup};
 ghost use Rattle.machine.specs.declared.Tag.the-variants.{Kept};
 ghost use Rattle.access.specs.Faults.{faultless};
-ghost use Rattle.access.specs.Fits.{AccessFits, RegistersFit, FaultFits, TagFits, StopFits, JudgedFits};
+ghost use Rattle.access.specs.Fits.{AccessFits, RegistersFit, FaultFits, TagFits, PreparedFits, JudgedFits};
 use laws::Found;
 use machine::Access;
 use machine::Answer;
@@ -113,8 +114,9 @@ fn bypass_translation(used: VirtualAddress) -> Translation
 }
 
 fn key_of_access(state: &[u64], a: Access) -> Key
-    requires { ⌜ Lent (now state) × AccessFits a ⌝ }
-    ensures { λ r. ⌜ r ≡ lookupKey (stateIn (now (state .entry)) .registers) a ⌝ }
+    requires { ⌜ Lent (now state) × AccessFits a × RegistersFit (now state) ⌝ }
+    ensures key { λ r. ⌜ r ≡ lookupKey (stateIn (now (state .entry)) .registers) a ⌝ }
+    ensures fits { λ r. ⌜ KeyFits r ⌝ }
 {
     let on = translation_on(state, a);
     let partition = state::read_register(state, a.strand, machine::PARTITION);
@@ -142,7 +144,7 @@ fn is_user_nucleus(mode: u64, kind: u8, selector: u8) -> bool
 fn prepare_access(state: &[u64], a: Access) -> Prepared
     requires { ⌜ Lent (now state) × AccessFits a × (a .size < 4) × RegistersFit (now state) ⌝ }
     ensures prepared { λ r. ⌜ r ≡ prepare (stateIn (now (state .entry)) .registers) a ⌝ }
-    ensures fits { λ r. ⌜ StopFits r ⌝ }
+    ensures fits { λ r. ⌜ PreparedFits r ⌝ }
 {
     if !aligned(a.used, a.size) {
         return Prepared::Stopped(Trap::AddressNotAligned, Tag::Kept);
@@ -335,7 +337,7 @@ fn settle_hit(state: &mut [u64], a: Access, i: usize) -> Answer
 
 // Step 5 and what comes of it.
 fn look_up(state: &mut [u64], hints: &mut [u8; 256], a: Access, key: Key) -> Answer
-    requires { ⌜ Lent (now state) × AccessFits a × SoundIn (now state) ⌝ }
+    requires { ⌜ Lent (now state) × AccessFits a × SoundIn (now state) × KeyFits key ⌝ }
     ensures { λ r. ⌜ Did (now (state .exit)) r (settle (stateIn (now (state .entry))) a (Lookup key)) ⌝ }
 {
     let found = state::search_hinted(state, hints, a.side, key);

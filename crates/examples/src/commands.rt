@@ -2,12 +2,14 @@
 // All commands are strand 0's and act on side 1, the data TLB.
 ghost use mathlib.Core.Path.{_≡_};
 ghost use Prim.Native.Nat.{_+_, _*_};
+ghost use lib.ListN.{length};
+ghost use Rattle.machine.specs.State.{stateLength};
 use laws::Found;
 use machine::Slot;
 
 const STRAND: u8 = 0;
 
-pub const SIDE: u8 = 1;
+const SIDE: u8 = 1;
 
 // Command bytes.
 const WRITE: u8 = 0x01;
@@ -66,6 +68,13 @@ fn command(before: [u8; 5], value: u64) -> [u8; 13] {
         (value / 0x100 % 256) as u8,
         (value % 256) as u8,
     ]
+}
+
+// The slots of the side that the commands act on.
+pub fn side_of(state: &[u64]) -> &[u64]
+    requires { ⌜ length (now state) ≡ stateLength ⌝ }
+{
+    &state[machine::REGISTER_WORDS + machine::SIDE_WORDS..machine::STATE_WORDS]
 }
 
 // Four bytes as a number, big-endian.

@@ -1,12 +1,15 @@
-// Two worked examples of the paper: which entry an insertion removes, and which it displaces. Each on an empty side of 64 slots by itself
-// and, beside it, by commands to the whole unit. The numbers printed stand in keys and entries or are what the library answers.
+// Worked examples of the paper: which entry an insertion removes, and which it displaces, each on an empty side of 64 slots by itself
+// and, beside it, by commands to the whole unit; and which pages a search compares. The numbers printed stand in keys and entries or are
+// what the library answers.
 mod commands;
+mod searches;
 
 ghost use mathlib.Core.Path.{_≡_};
 ghost use mathlib.Core.Bool.{false};
 ghost use Prim.Native.Nat.{_+_, _-_, _*_, _<_, _≤_, _%_};
 ghost use lib.ListN.{length};
-ghost use Rattle.machine.specs.Slots.{slotsOf, search};
+ghost use Rattle.machine.specs.Slots.{slotsOf};
+ghost use Rattle.search_count.specs.Counted.{searchedAny};
 ghost use Rattle.machine.specs.State.{stateLength};
 ghost use Rattle.machine.specs.Insertion.{entryOf};
 ghost use Rattle.machine.specs.declared.Key.the-variants.{Virtual};
@@ -40,9 +43,10 @@ fn entry(key: Key, code: u64) -> Slot
 
 // The entry that answers to a key, or an empty slot.
 fn lookup(slots: &[u64], key: Key) -> Slot
-    ensures { λ r. ⌜ r ≡ foundSlot (slotsOf (now (slots .entry))) (search key (slotsOf (now (slots .entry)))) ⌝ }
+    ensures { λ r. ⌜ r ≡ foundSlot (slotsOf (now (slots .entry))) (searchedAny key (slotsOf (now (slots .entry))) .found) ⌝ }
 {
-    let Found::At(i) = tlb::search(slots, key) else {
+    let found = search_count::search_any(slots, key).found;
+    let Found::At(i) = found else {
         return Slot {
             owner: 0,
             page: 0,
@@ -149,15 +153,13 @@ fn insertion(slots: &mut [u64], state: &mut [u64], q: u64)
 {
     let new = numbered(q);
     if let Placed::Displaced(old) = tlb_update::insert(slots, entry(new, 0)) {
-        print_displaced(q, old, tlb::search(slots, new));
+        let found = search_count::search_any(slots, new).found;
+        print_displaced(q, old, found);
     }
     let reply = commands::insert(state, entry(new, 0));
     if reply.kind == commands::DISPLACED {
-        commands::print_displaced(
-            q,
-            reply.first,
-            state::search_side(state, commands::SIDE, new),
-        );
+        let found = search_count::search_any(commands::side_of(state), new).found;
+        commands::print_displaced(q, reply.first, found);
     }
 }
 
@@ -191,4 +193,5 @@ fn main() {
     overlap(5, 5);
     overlap(5, 6);
     displacement();
+    searches::show();
 }

@@ -1,4 +1,4 @@
--- Laws of `find` and of counts over elements that are known: what is found, what stands once, and tests that agree on every element.
+-- Laws of `find` and of counts over elements that are known: what is found, what stands once, tests that agree on every element, and counts up to the first.
 -- Over any type and any test. Assumes nothing.
 use mathlib.Core.Path.{_≡_, refl, ap, _∙_}
 use mathlib.Core.Bool.{Bool, true, false, not, _&&_}
@@ -7,9 +7,9 @@ use mathlib.Core.Option.{Option, none, some}
 use Prim.Native.Nat.{ℕ, zero, suc, _+_, _≤_, _<_}
 use native.Mathlib.Omega.{arith}
 use lib.Dec.{eqb}
-use lib.ListN.{length, getD}
+use lib.ListN.{length, getD, take}
 use borrow.Author.Tests.{eq-eqb, ne-eqb}
-use Rattle.laws.specs.Tests.{tick, count, anyOf, allOf, firstFrom, first}
+use Rattle.laws.specs.Tests.{tick, count, anyOf, allOf, firstFrom, first, countUpTo}
 use Rattle.laws.specs.Passing.{passing, howMany, nonePasses, without, find}
 use Rattle.laws.specs.declared.Found.the-variants.{At}
 use Rattle.laws.proofs.Bools.{by-test, clash, and-both, and-left, and-right}
@@ -103,6 +103,49 @@ module _ {A : Type 0} where
   unfolding count allOf
   count-where ok p q [] h k = refl
   count-where ok p q (x ∷ l) h k = omega (arith, ap tick (k x (and-left (ok x) _ h)), count-where ok p q l (and-right (ok x) _ h) k)
+
+  module _ (ok p p' : A → Bool) (e : (x : A) → ok x ≡ true → p x ≡ p' x) where
+    first-from : (l : List A) (k : ℕ) → allOf ok l ≡ true → firstFrom p k l ≡ firstFrom p' k l
+    unfolding firstFrom allOf
+    first-from [] k h = refl
+    first-from (x ∷ l) k h = rw (e x (and-left (ok x) _ h), first-from l (suc k) (and-right (ok x) _ h))
+
+    pub first-where : (l : List A) → allOf ok l ≡ true → first p l ≡ first p' l
+    first-where l h = first-from l 0 h
+
+    pub upto-where : (q q' : A → Bool) → ((x : A) → ok x ≡ true → q x ≡ q' x) → (l : List A) → allOf ok l ≡ true → countUpTo q p l ≡ countUpTo q' p' l
+    unfolding countUpTo allOf
+    upto-where q q' f [] h = refl
+    upto-where q q' f (x ∷ l) h =
+        let o : ok x ≡ true = and-left (ok x) _ h in
+        rw (e x o, f x o, upto-where q q' f l (and-right (ok x) _ h))
+
+  -- ---- how many up to the first that passes: of the elements up to it and with it, or of all
+  module _ (q p : A → Bool) where
+    upto-from : (l : List A) (k j : ℕ) → firstFrom p k l ≡ At j → (i : ℕ) × (j ≡ k + i) × (countUpTo q p l ≡ count q (take (suc i) l))
+    unfolding firstFrom countUpTo count
+    upto-from [] k j h = absurd (let z : _≡_ {A = ℕ} 0 1 = cc in omega arith)
+    upto-from (x ∷ l) k j h = by-test (p x)
+        (λ t.
+        let at : At k ≡ At j = rw t at h in
+        let here : k ≡ j = cc in
+        (0, omega arith, rw t))
+        (λ t.
+        let (i, n, c) = upto-from l (suc k) j (rw t at h) in
+        (suc i, omega arith, rw (t, c)))
+
+    pub upto-found : (l : List A) (i : ℕ) → first p l ≡ At i → countUpTo q p l ≡ count q (take (i + 1) l)
+    upto-found l i h =
+        let (j, n, c) = upto-from l 0 i h in
+        let e : suc j ≡ i + 1 = omega arith in
+        c ∙ ap (λ (k : ℕ). count q (take k l)) e
+
+    pub upto-none : (l : List A) → count p l ≡ 0 → countUpTo q p l ≡ count q l
+    unfolding countUpTo count
+    upto-none [] h = refl
+    upto-none (x ∷ l) h = by-test (p x)
+        (λ t. absurd (omega (arith, ap tick t)))
+        (λ t. rw (t, upto-none l (omega (arith, ap tick t))))
 
   -- ---- none passes
   pub zero-none : (p : A → Bool) (l : List A) → eqb (count p l) 0 ≡ not (anyOf p l)

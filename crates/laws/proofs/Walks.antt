@@ -8,7 +8,7 @@ use native.Mathlib.Omega.{arith}
 use native.Mathlib.Numerals.{add-one}
 use lib.ListN.{length, getD, set, drop, drop-of-length-le}
 use lib.Seq.{drop-cons}
-use Rattle.laws.specs.Tests.{tick, count, anyOf, allOf, pairwise, firstFrom, first}
+use Rattle.laws.specs.Tests.{tick, count, anyOf, allOf, pairwise, firstFrom, first, countUpTo}
 use Rattle.laws.specs.declared.Found.{Found}
 use Rattle.laws.specs.declared.Found.the-variants.{At, Nothing}
 use Rattle.laws.proofs.Bools.{by-test}
@@ -69,6 +69,22 @@ module _ {A : Type 0} (d : A) (s : List A) (i : ℕ) where
     unfolding count
     count-end h = rw (drop-of-length-le s)
 
+  -- ---- how many pass a test, up to the first that passes another
+  module _ (q p : A → Bool) where
+    upto-step : i < length s → countUpTo q p (drop i s) ≡ tick (q (getD s i d)) + cond (p (getD s i d)) 0 (countUpTo q p (drop (i + 1) s))
+    unfolding countUpTo
+    upto-step h = rw (add-one, drop-cons s i d)
+
+    pub upto-hit : i < length s → p (getD s i d) ≡ true → countUpTo q p (drop i s) ≡ tick (q (getD s i d))
+    upto-hit h t = upto-step h ∙ rw t (omega arith)
+
+    pub upto-pass : i < length s → p (getD s i d) ≡ false → countUpTo q p (drop i s) ≡ tick (q (getD s i d)) + countUpTo q p (drop (i + 1) s)
+    upto-pass h t = upto-step h ∙ rw t
+
+    pub upto-end : length s ≤ i → countUpTo q p (drop i s) ≡ 0
+    unfolding countUpTo
+    upto-end h = rw (drop-of-length-le s)
+
   -- ---- whether no element clashes with a later one
   module _ (f : A → A → Bool) where
     pair-step : i < length s → pairwise f (drop i s) ≡ (not (anyOf (f (getD s i d)) (drop (i + 1) s)) && pairwise f (drop (i + 1) s))
@@ -91,12 +107,6 @@ unfolding pairwise
 pair-drop f s zero h = h
 pair-drop f [] (suc i) h = h
 pair-drop f (x ∷ r) (suc i) h = rw (pair-drop f r i h) (and-false (not (anyOf (f x) r)))
-
--- tests that agree find the same
-pub first-same : {A : Type 0} (p q : A → Bool) → ((x : A) → p x ≡ q x) → (s : List A) (k : ℕ) → firstFrom p k s ≡ firstFrom q k s
-unfolding firstFrom
-first-same p q e [] k = refl
-first-same p q e (x ∷ s) k = rw (e x, first-same p q e s (suc k))
 
 -- ---- what a search says: the index found is within and passes, or none passes
 module _ {A : Type 0} (d : A) (p : A → Bool) where

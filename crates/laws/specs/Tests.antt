@@ -1,4 +1,4 @@
--- Tests of the elements of a list: how many pass, whether any or all do, the first that does. Over any type and any test.
+-- Tests of the elements of a list: how many pass, whether any or all do, the first that does, and how many up to it. Over any type and any test.
 -- Assumes nothing.
 use mathlib.Core.Bool.{Bool, true, false, not, cond, _&&_, _||_}
 use mathlib.Core.List.{List, [], _∷_}
@@ -43,3 +43,8 @@ module _ {A : Type 0} where
 
   abbrev pub first : (A → Bool) → List A → Found
   first p s = firstFrom p 0 s
+
+  -- how many pass a test, up to and with the first that passes another; of all where none does
+  unfoldable pub countUpTo : (A → Bool) → (A → Bool) → List A → ℕ
+  countUpTo counted p [] = 0
+  countUpTo counted p (x ∷ r) = tick (counted x) + cond (p x) 0 (countUpTo counted p r)

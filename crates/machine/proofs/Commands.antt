@@ -251,7 +251,7 @@ module _ {n : Counts} {u : State} {l : Ledger} (h : Alike n u l) where
       let w = strand-sound (u .registers) strand (h .allowed) s in
       let e : flags % 2 ≡ flags = omega arith in
       rw (h .registers strand 0 s (omega arith), context-picked h strand s selector c, e)
-      (page-test (partition (u .registers) strand) (eqb flags 1) (selected (u .registers) strand selector) address (w .partitions) (w .contexts selector))
+      (page-test (partition (u .registers) strand) (eqb flags 1) (selected (u .registers) strand selector) address)
 
   context-same : (strand selector : ℕ) → strand < 4 → selector < 3
       → SameTest (removes (removal.Context (partition (u .registers) strand) (selected (u .registers) strand selector)))
@@ -271,7 +271,7 @@ module _ {n : Counts} {u : State} {l : Ledger} (h : Alike n u l) where
   key-same : (a : Asked) (s : a .strand < 4) (c : a .selector < 3)
       → SameTest (answersTo (keyOf (not (translationOn l a)) (l .registers (a .strand) 0) (contextPicked l (a .strand) (a .selector))
       (record { 0 = a .used }))) (foundBy l a)
-  key-same a s c = key-test _ (not (translationOn l a)) _ (record { 0 = a .used }) (key-small h a s c .0) (key-small h a s c .1)
+  key-same a s c = key-test _ (not (translationOn l a)) _ (record { 0 = a .used })
 
   looked-one : (a : Asked) (s : a .strand < 4) (c : a .selector < 3) → count (foundBy l a) (l .entries (kindSide (a .kind))) ≤ 1
   looked-one a s c = alike-one (looked a) _ (not (translationOn l a)) _ (record { 0 = a .used }) (key-small h a s c .0) (key-small h a s c .1)

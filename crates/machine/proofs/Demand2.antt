@@ -43,7 +43,7 @@ use Rattle.machine.specs.declared.Verdict.{Verdict}
 use Rattle.machine.specs.declared.Verdict.the-variants.{Passed, Refused}
 use Rattle.machine.specs.declared.Answer.{Answer}
 use Rattle.machine.specs.declared.Answer.the-variants as answer
-use Rattle.machine.proofs.Sound.{live-parts, sound-slot}
+use Rattle.machine.proofs.Sound.{live-parts, answers-live, sound-slot}
 use Rattle.machine.proofs.State.{sound-side}
 use Rattle.machine.proofs.Words.{pack-unpack, physical-below}
 
@@ -121,12 +121,11 @@ module _ (n : Counts) (u : State) (h : sound n u ≡ true) (a : Access) (t : Tra
 
   found-below : (key : Key) (f : Found) → first (answersTo key) (sideOf u (a .side)) ≡ f
       → settleFound u a f .answer ≡ answer.Physical t → t .address .0 < 2 ^ 40
-  unfolding answersTo
   found-below key Nothing g e = no-address refl e
   found-below key (At i) g e =
       let s : List Slot = sideOf u (a .side) in
       let x : Slot = getD s i noSlot in
-      let live : isLive x ≡ true = and-left _ _ (found-at noSlot (answersTo key) s i g .1) in
+      let live : isLive x ≡ true = answers-live key x (found-at noSlot (answersTo key) s i g .1) in
       let word = live-parts x (sound-slot s i (sound-side n u h (a .side) .1)) live .word in
       judged-below _ (judge (u .registers) a (x .word)) (hit-below (u .registers) a (x .word) t word) e
 

@@ -32,7 +32,7 @@ use Rattle.machine.specs.declared.Prepared.the-variants as prepared
 use Rattle.machine.specs.declared.Judged.{Judged}
 use Rattle.machine.specs.declared.Judged.the-variants as judged
 use Rattle.machine.specs.Step.{act, stepBy, step, insertStep}
-use Rattle.machine.specs.Ledger.{Entry, overlap, unlocked, isAt, inContext, inPartition, Miss}
+use Rattle.machine.specs.Ledger.{Entry, overlap, unlocked, isOf, isAt, inContext, inPartition, Miss}
 use Rattle.machine.specs.Frame.{Framed, entryIn}
 use Rattle.machine.specs.Frame.{LivesIn, Lives, Removes, invalidated, overlapped, demappedPage, demappedContext, demappedAll, displaced}
 use Rattle.machine.specs.declared.Slot.{Slot}
@@ -216,7 +216,7 @@ module _ (n : Counts) (u : State) (side : ℕ) (e : Entry) (h : sound n u ≡ tr
 
   -- every command that no question refused
   act-frame : (c : Command) → verdict u c ≡ Passed → Lives (act u c .state) side e ⊎ Removes u side e c
-  unfolding act asked allOf isAt inContext inPartition removes
+  unfolding act asked allOf isOf isAt inContext inPartition removes
   act-frame (command.Write strand number value) v = inl l
   act-frame (command.Insert strand other flags word) v =
       let (s, o, i) = insert-insertable u strand other flags word v in
@@ -225,8 +225,8 @@ module _ (n : Counts) (u : State) (side : ℕ) (e : Entry) (h : sound n u ≡ tr
       let q = passed-asked u (command.DemapPage strand other selector flags address) v in
       let s : StrandSound (u .registers) strand = strand-sound (u .registers) strand (sound-registers n u h) (search conj) in
       let small : flags < 2 = search conj in
-      demap-frame other (search conj) (page-test _ (flagReal flags) _ address (s .partitions) (s .contexts selector))
-      (λ f t. rw f (demappedPage (of-partition e _ t) (rw (mod-eq-of-lt small) at t)))
+      demap-frame other (search conj) (page-test _ (flagReal flags) _ address)
+      (λ f t. rw f (demappedPage (of-partition e _ (and-left _ _ t)) (rw (mod-eq-of-lt small) at t)))
   act-frame (command.DemapContext strand other selector) v =
       let q = passed-asked u (command.DemapContext strand other selector) v in
       let s : StrandSound (u .registers) strand = strand-sound (u .registers) strand (sound-registers n u h) (search conj) in

@@ -79,7 +79,7 @@ referenceOf u = record {
   places = λ side. map placeIn (sideOf u side);
 }
 
-entries-same : (p : Entry → Bool) (s : List Slot) → count (hit p) s ≡ count p (entriesIn (map placeIn s))
+pub entries-same : (p : Entry → Bool) (s : List Slot) → count (hit p) s ≡ count p (entriesIn (map placeIn s))
 unfolding count entriesIn
 entries-same p [] = refl
 entries-same p (x ∷ r) = by-test (isLive x) (λ e. rw (e, entries-same p r)) (λ e. rw e (omega (arith, entries-same p r)))

@@ -10,17 +10,16 @@ use native.Mathlib.Omega.{arith}
 use lib.Dec.{leb}
 use lib.ListN.{length, getD, set, length-map, length-set, List·getD-map}
 use borrow.Author.Tests.{eq-eqb, eqb-true, leb-true, leb-false, not-true}
-use Rattle.laws.specs.Tests.{tick, count, anyOf, pairwise, first}
+use Rattle.laws.specs.Tests.{tick, count, anyOf, first}
 use Rattle.laws.specs.declared.Found.{Found}
 use Rattle.laws.specs.declared.Found.the-variants.{At, Nothing}
 use Rattle.laws.proofs.Bools.{by-test, both-ways, clash, and-left, and-right, or-left, or-right, or-other}
-use Rattle.laws.proofs.Counts.{count-set, count-map, count-same, count-one}
+use Rattle.laws.proofs.Counts.{count-set, count-map, count-same}
 use Rattle.laws.proofs.Walks.{any-at, found-at, found-none}
 use Rattle.machine.specs.Pages.{pageShift, pageStart}
-use Rattle.machine.specs.Slots.{noSlot, isLive, sizeCode, isUsed, keyOwner, keyAddress, holds, answersTo, withUsed, withoutUsed, setUsed, clearUsed}
+use Rattle.machine.specs.Slots.{noSlot, isLive, sizeCode, isUsed, holds, withUsed, withoutUsed, setUsed, clearUsed}
 use Rattle.machine.specs.Insertion.{overlaps, emptiedBy, removed, isEmpty, wants, foundOr, choice, stored, displacedBy, inserted, placed, hasSlot}
 use Rattle.machine.specs.declared.Slot.{Slot}
-use Rattle.machine.specs.declared.Key.{Key}
 use Rattle.machine.specs.declared.Wanted.{Wanted}
 use Rattle.machine.specs.declared.Wanted.the-variants as wanted
 use Rattle.machine.specs.declared.Choice.{Choice}
@@ -58,25 +57,12 @@ larger x y a h hx hy =
     let r : pageStart (sizeCode y) (x .page) ≡ y .page = rw (← px, round-round a (pageShift (sizeCode x)) (pageShift (sizeCode y)) h) py in
     eq-eqb _ _ r
 
--- two entries that answer to one key overlap
-pub answers-overlap : (key : Key) (x y : Slot) → answersTo key x ≡ true → answersTo key y ≡ true → overlaps x y ≡ true
-unfolding answersTo overlaps
-answers-overlap key x y hx hy =
-    let lx : isLive x ≡ true = search conj in
-    let ly : isLive y ≡ true = search conj in
-    let ox : x .owner ≡ keyOwner key = search conj in
-    let oy : y .owner ≡ keyOwner key = search conj in
-    let ax : holds x (keyAddress key) ≡ true = search conj in
-    let ay : holds y (keyAddress key) ≡ true = search conj in
-    let meet : (holds x (y .page) || holds y (x .page)) ≡ true =
+-- so one of them holds the start of the other
+pub pages-meet : (x y : Slot) (a : ℕ) → holds x a ≡ true → holds y a ≡ true → (holds x (y .page) || holds y (x .page)) ≡ true
+pages-meet x y a hx hy =
     by-test (leb (pageShift (sizeCode x)) (pageShift (sizeCode y)))
-    (λ e. rw (larger x y (keyAddress key) (leb-true _ _ e) ax ay) (or-true (holds x (y .page))))
-    (λ e. rw (larger y x (keyAddress key) (le-of-lt (leb-false _ _ e)) ay ax)) in
-    rw (lx, ly, eq-eqb _ _ (ox ∙ sym oy)) meet
-
--- where no entries overlap, at most one answers to a key
-pub one-answers : (key : Key) (s : List Slot) → pairwise overlaps s ≡ true → count (answersTo key) s ≤ 1
-one-answers key s h = count-one overlaps (answersTo key) s (answers-overlap key) h
+    (λ e. rw (larger x y a (leb-true _ _ e) hx hy) (or-true (holds x (y .page))))
+    (λ e. rw (larger y x a (le-of-lt (leb-false _ _ e)) hy hx))
 
 -- ---- removal
 module _ (q : Slot → Bool) where

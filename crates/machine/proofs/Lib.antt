@@ -20,6 +20,7 @@ pub mod Misses
 pub mod Commands
 pub mod Demand3
 pub mod Good
+pub mod Searches
 pub mod Reference
 pub mod Demand1
 pub mod Demand2

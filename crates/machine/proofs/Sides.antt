@@ -2,7 +2,7 @@
 -- Assumes nothing.
 use Prim.Native.Nat.{ℕ, zero, suc, _+_, _*_, _-_, _/_, _%_, _^_, _≤_, _<_}
 use mathlib.Core.Path.{_≡_, refl, ap, sym, _∙_}
-use mathlib.Core.Bool.{Bool, true, false, not, _&&_, _||_, Bool·beq, and-assoc, and-false}
+use mathlib.Core.Bool.{Bool, true, false, not, _&&_, _||_, Bool·beq, and-assoc, and-false, and-true}
 use mathlib.Core.List.{List, [], _∷_, _++_}
 use mathlib.Core.Option.{none, some}
 use native.Mathlib.Omega.{arith}
@@ -18,26 +18,30 @@ use Rattle.laws.proofs.Bools.{by-test, clash, both-ways, and-both, and-left, an
 use Rattle.laws.proofs.Counts.{count-append, count-passing, count-none, count-all, count-rest, count-at, count-one, count-le, none-count}
 use Rattle.laws.proofs.Walks.{found-at, found-none}
 use Rattle.laws.proofs.Finds.{count-index, find-zero, find-only, removed-once, count-where, zero-none, without-none, how-many}
-use Rattle.machine.specs.Pages.{listed, pageShift, pageSize, pageStart, untranslated}
+use Rattle.machine.specs.Pages.{listed, pageShift, pageSize, pageStart}
 use Rattle.machine.specs.Words.{wordSound}
-use Rattle.machine.specs.Slots.{noSlot, isLive, sizeCode, partitionOf, isReal, contextOf, holds, answersTo, withUsed, withoutUsed, setUsed}
+use Rattle.machine.specs.Slots.{noSlot, isLive, sizeCode, partitionOf, isReal, contextOf, KeyFits, agrees, holds, isCompared, answersTo}
+use Rattle.machine.specs.Slots.{withUsed, withoutUsed, setUsed}
 use Rattle.machine.specs.Insertion.{overlaps, removed, removes, isEmpty, candidate, inserted, placed, hasSlot}
-use Rattle.machine.specs.Sound.{ownerSound, liveSound, slotSound, sideSound}
+use Rattle.machine.specs.Sound.{slotSound, sideSound}
 use Rattle.machine.specs.Questions.{keyOf}
-use Rattle.machine.specs.Ledger.{Entry, Ledger, Name, codeBytes, pageBytes, reaches, overlap, unlocked, isAt}
+use Rattle.machine.specs.Ledger.{Entry, Ledger, Name, codeBytes, pageBytes, reaches, overlap, unlocked, isOf, isAt}
 use Rattle.machine.specs.Ledger.{inContext, inPartition, isNamed, lacksSlot, inserts, answers, withEntries, line}
 use Rattle.machine.specs.Demand3.{Live}
 use Rattle.machine.specs.Frame.{entryIn}
 use Rattle.machine.specs.declared.VirtualAddress.{VirtualAddress}
 use Rattle.machine.specs.declared.Slot.{Slot}
+use Rattle.machine.specs.declared.Key.the-variants.{Virtual}
 use Rattle.machine.specs.declared.Removal.the-variants.{Page, Context, Unlocked, Everything}
 use Rattle.machine.specs.declared.Placed.the-variants.{Done, Displaced}
 use Rattle.machine.proofs.Pages.{shift-large}
 use Rattle.machine.proofs.Alike.{hit, SideAlike}
-use Rattle.machine.proofs.Insertion.{overlaps-live, one-answers, length-removed, count-removed, count-set-used}
+use Rattle.machine.proofs.Insertion.{overlaps-live, length-removed, count-removed, count-set-used}
 use Rattle.machine.proofs.Insertion.{slot-had, Displacement, placed-says, length-inserted, displacedShare}
 use Rattle.machine.proofs.Insertion.{newShare, count-inserted}
-use Rattle.machine.proofs.Sound.{live-parts, agrees-virtual, agrees-real, sound-slot, empty-sound, sound-removed, sound-set-used, sound-inserted}
+use Rattle.machine.proofs.Sound.{live-parts, owner-agrees, answers-live, one-answers, sound-slot, empty-sound, sound-removed, sound-set-used}
+use Rattle.machine.proofs.Sound.{sound-inserted}
+use Rattle.machine.proofs.State.{key-address}
 
 -- ---- tests
 eqb-self : (n : ℕ) → eqb n n ≡ true
@@ -137,32 +141,41 @@ overlap-test new h l = record {
   live = λ x e. overlaps-live new x e .1;
 }
 
--- the key of a lookup. On a real one the context is not compared, and a sound real slot has context 0
-pub key-test : (partition : ℕ) (real : Bool) (context : ℕ) (address : VirtualAddress) → partition < 8 → context < 2 ^ 13
-    → SameTest (answersTo (keyOf real partition context address)) (isAt partition real context (address .0))
-unfolding answersTo isAt slotSound liveSound
-key-test partition real context address p c = record { agree = agree real; live = λ x e. and-left _ _ e }
+-- the key of a partition and a context that fit
+pub key-fits : (partition : ℕ) (real : Bool) (context : ℕ) (address : VirtualAddress) → partition < 8 → context < 2 ^ 13
+    → KeyFits (keyOf real partition context address)
+key-fits partition true context address p c = p
+key-fits partition false context address p c = (p, c)
+
+-- whose entries a key asks for: on a real one the context is not compared
+pub owner-test : (partition : ℕ) (real : Bool) (context : ℕ) (address : VirtualAddress)
+    → SameTest (isCompared (keyOf real partition context address)) (isOf partition real context)
+unfolding isCompared isOf
+owner-test partition real context address = record { agree = λ x h l. agree real x l; live = λ x e. and-right (agrees (keyOf real partition context address) x) _ e }
   where
-    agree : (real : Bool) (x : Slot) → slotSound x ≡ true → isLive x ≡ true
-        → answersTo (keyOf real partition context address) x ≡ isAt partition real context (address .0) (entryIn x)
-    agree true x h l =
-        let s : liveSound x ≡ true = rw l at h in
-        let o : ownerSound x ≡ true = search conj in
-        rw (l, reaches-holds x h l (address .0), agrees-real x partition p (untranslated address) o, same-yes (isReal x))
-        (and-assoc (eqb (partitionOf x) partition) _ _)
-    agree false x h l =
-        rw (l, reaches-holds x h l (address .0), agrees-virtual x partition p context address c, same-no (isReal x)) (simp and-assoc)
+    agree : (real : Bool) (x : Slot) → isLive x ≡ true → isCompared (keyOf real partition context address) x ≡ isOf partition real context (entryIn x)
+    agree true x l = rw (l, same-yes (isReal x)) (and-assoc (eqb (partitionOf x) partition) (isReal x) true)
+    agree false x l = rw (l, same-no (isReal x)) (and-true _)
+
+-- and whether the page holds the address
+pub key-test : (partition : ℕ) (real : Bool) (context : ℕ) (address : VirtualAddress)
+    → SameTest (answersTo (keyOf real partition context address)) (isAt partition real context (address .0))
+unfolding answersTo isAt
+key-test partition real context address = record {
+  agree = λ x h l. rw (owner-test partition real context address .agree x h l, key-address real partition context address, reaches-holds x h l (address .0));
+  live = λ x e. answers-live (keyOf real partition context address) x e;
+}
 
 -- a demap page asks for the same key
-pub page-test : (partition : ℕ) (real : Bool) (context : ℕ) (address : VirtualAddress) → partition < 8 → context < 2 ^ 13
+pub page-test : (partition : ℕ) (real : Bool) (context : ℕ) (address : VirtualAddress)
     → SameTest (removes (Page (keyOf real partition context address))) (isAt partition real context (address .0))
 unfolding removes
-page-test partition real context address p c = key-test partition real context address p c
+page-test partition real context address = key-test partition real context address
 
 pub context-test : (partition context : ℕ) → partition < 8 → context < 2 ^ 13 → SameTest (removes (Context partition context)) (inContext partition context)
 unfolding removes inContext
 context-test partition context p c = record {
-  agree = λ x h l. rw l (agrees-virtual x partition p context (record { 0 = 0 }) c);
+  agree = λ x h l. rw l (owner-agrees (Virtual partition context (record { 0 = 0 })) x (p, c) h);
   live = λ x e. and-left _ _ e;
 }
 
@@ -181,7 +194,7 @@ unfolding removes
 everything-test = live-test
 
 -- on a sound slot the test of the entry is the test of the slot
-same-hit : {q : Slot → Bool} {p : Entry → Bool} → SameTest q p → (x : Slot) → slotSound x ≡ true → q x ≡ hit p x
+pub same-hit : {q : Slot → Bool} {p : Entry → Bool} → SameTest q p → (x : Slot) → slotSound x ≡ true → q x ≡ hit p x
 same-hit {q} t x h = by-test (isLive x) (λ l. rw l (t .agree x h l)) (λ l. rw l (by-test (q x) (λ e. clash (t .live x e) l) (λ e. e)))
 
 -- ---- equal entries
@@ -342,9 +355,8 @@ module _ {n : ℕ} {s : List Slot} {m : List Entry} (h : SideAlike n s m) where
   -- at most one entry is found at a key
   pub alike-one : (partition : ℕ) (real : Bool) (context : ℕ) (address : VirtualAddress) → partition < 8 → context < 2 ^ 13
       → count (isAt partition real context (address .0)) m ≤ 1
-  unfolding sideSound
   alike-one partition real context address p c =
-      rw (← (alike-count (key-test partition real context address p c))) (one-answers _ s (and-right (allOf slotSound s) _ (h .sound)))
+      rw (← (alike-count (key-test partition real context address))) (one-answers _ s (key-fits partition real context address p c) (h .sound))
 
   -- ---- names
   -- a name is that of one entry at most

@@ -1,30 +1,30 @@
 -- Laws of soundness, on any number of slots: what keeps a side sound, and what a sound slot is known to be. Assumes nothing.
-use Prim.Native.Nat.{ℕ, zero, suc, _/_, _%_, _^_, _<_}
-use mathlib.Core.Path.{_≡_, refl, ap, _∙_}
+use Prim.Native.Nat.{ℕ, zero, suc, _/_, _%_, _^_, _≤_, _<_}
+use mathlib.Core.Path.{_≡_, refl, ap, sym, _∙_}
 use mathlib.Core.List.{List, map}
 use mathlib.Core.Bool.{Bool, true, false, not, _&&_, _||_}
 use native.Mathlib.Omega.{arith}
 use lib.Dec.{eqb, ltb}
 use lib.ListN.{getD, set, replicate}
 use borrow.Author.Tests.{eqb-true, eqb-false, eq-eqb, ne-eqb, lt-ltb, ltb-true, not-true}
-use Rattle.laws.specs.Tests.{tick, allOf, pairwise}
+use Rattle.laws.specs.Tests.{tick, count, allOf, pairwise}
 use Rattle.laws.proofs.Bools.{by-test, clash, both-ways, and-both, and-left, and-right, or-other}
+use Rattle.laws.proofs.Counts.{count-one}
+use Rattle.laws.proofs.Finds.{count-where}
 use Rattle.laws.proofs.Alls.{clear, pair-cons, all-both, all-get, all-map, all-set, pair-map, pair-set}
 use Rattle.machine.specs.Pages.{inRange, pageStart}
 use Rattle.machine.specs.Words.{wordSound}
-use Rattle.machine.specs.Slots.{noSlot, isLive, sizeCode, partitionOf, isReal, contextOf, ownerWord, keyAddress}
-use Rattle.machine.specs.Slots.{agrees, withUsed, withoutUsed, setUsed, clearUsed}
+use Rattle.machine.specs.Slots.{noSlot, isLive, sizeCode, partitionOf, isReal, contextOf, ownerWord, keyOwner, keyAddress, KeyFits}
+use Rattle.machine.specs.Slots.{agrees, holds, isCompared, answersTo, withUsed, withoutUsed, setUsed, clearUsed}
 use Rattle.machine.specs.Insertion.{overlaps, emptiedBy, removed, entryOf, choice, stored, inserted}
 use Rattle.machine.specs.Sound.{ownerSound, pageSound, liveSound, emptySound, slotSound, sideSound}
 use Rattle.machine.specs.declared.Slot.{Slot}
 use Rattle.machine.specs.declared.Key.{Key}
 use Rattle.machine.specs.declared.Key.the-variants.{Virtual, Real}
-use Rattle.machine.specs.declared.VirtualAddress.{VirtualAddress}
-use Rattle.machine.specs.declared.RealAddress.{RealAddress}
 use Rattle.machine.specs.declared.Choice.{Choice}
 use Rattle.machine.specs.declared.Choice.the-variants.{Empty, Unused, Cleared, Full}
 use Rattle.machine.proofs.Pages.{start-start, range-start}
-use Rattle.machine.proofs.Insertion.{overlaps-turn, overlaps-sym}
+use Rattle.machine.proofs.Insertion.{overlaps-turn, overlaps-sym, pages-meet}
 
 ruleset conj = (and-left, and-right)
 
@@ -141,42 +141,75 @@ entry-sound key locked word h a =
     flags true = omega arith
     flags false = omega arith
 
--- ---- agreeing with a key is agreeing in the fields
-module _ (x : Slot) (partition : ℕ) (p : partition < 8) where
-  pub agrees-virtual : (context : ℕ) (address : VirtualAddress) → context < 2 ^ 13
-      → agrees (Virtual partition context address) x ≡ (eqb (partitionOf x) partition && (not (isReal x) && eqb (contextOf x) context))
-  agrees-virtual context address c =
-      both-ways _ _
-      (λ h.
-      let e : x .owner ≡ ownerWord partition false context = eqb-true _ _ h in
-      rw (eq-eqb (partitionOf x) partition (omega arith), ne-eqb (x .owner / 2 ^ 13 % 2) 1 (λ r. omega arith)) (eq-eqb (contextOf x) context (omega arith)))
-      (λ h.
-      let a : eqb (partitionOf x) partition ≡ true = search conj in
-      let b : not (isReal x) ≡ true = search conj in
-      let d : eqb (contextOf x) context ≡ true = search conj in
-      let n : x .owner / 2 ^ 13 % 2 ≡ 1 → ⊥ = eqb-false _ 1 (not-true _ b) in
-      eq-eqb (x .owner) (ownerWord partition false context) (omega (arith, eqb-true)))
+-- ---- whose a slot is
+-- the owner of a sound slot is sound, an empty one's too
+owner-sound : (x : Slot) → slotSound x ≡ true → ownerSound x ≡ true
+unfolding liveSound ownerSound
+owner-sound x h = by-test (isLive x)
+    (λ l. let s : liveSound x ≡ true = live-sound x h l in search conj)
+    (λ l. rw (dead-zero x h l))
 
-  -- a real one of a sound owner has context 0
-  pub agrees-real : (address : RealAddress) → ownerSound x ≡ true → agrees (Real partition address) x ≡ (eqb (partitionOf x) partition && isReal x)
-  unfolding ownerSound
-  agrees-real address s =
-      both-ways _ _
-      (λ h.
-      let e : x .owner ≡ ownerWord partition true 0 = eqb-true _ _ h in
-      rw (eq-eqb (partitionOf x) partition (omega arith)) (eq-eqb (x .owner / 2 ^ 13 % 2) 1 (omega arith)))
-      (λ h.
-      let a : eqb (partitionOf x) partition ≡ true = search conj in
-      let b : isReal x ≡ true = search conj in
-      let r : (not (isReal x) || eqb (contextOf x) 0) ≡ true = search conj in
-      let d : eqb (contextOf x) 0 ≡ true = or-other (not (isReal x)) _ r (ap not b) in
-      eq-eqb (x .owner) (ownerWord partition true 0) (omega (arith, eqb-true)))
+-- one comparison of owner words settles partition, real bit and context: a real slot that is sound has context 0
+pub owner-agrees : (key : Key) (x : Slot) → KeyFits key → slotSound x ≡ true → eqb (x .owner) (keyOwner key) ≡ agrees key x
+unfolding ownerSound
+owner-agrees (Virtual partition context address) x (p, c) h =
+    both-ways _ _
+    (λ t.
+    let e : x .owner ≡ ownerWord partition false context = eqb-true _ _ t in
+    rw (eq-eqb (partitionOf x) partition (omega arith), ne-eqb (x .owner / 2 ^ 13 % 2) 1 (λ r. omega arith)) (eq-eqb (contextOf x) context (omega arith)))
+    (λ t.
+    let a : eqb (partitionOf x) partition ≡ true = search conj in
+    let b : not (isReal x) ≡ true = search conj in
+    let d : eqb (contextOf x) context ≡ true = search conj in
+    let n : x .owner / 2 ^ 13 % 2 ≡ 1 → ⊥ = eqb-false _ 1 (not-true _ b) in
+    eq-eqb (x .owner) (ownerWord partition false context) (omega (arith, eqb-true)))
+owner-agrees (Real partition address) x p h =
+    both-ways _ _
+    (λ t.
+    let e : x .owner ≡ ownerWord partition true 0 = eqb-true _ _ t in
+    rw (eq-eqb (partitionOf x) partition (omega arith)) (eq-eqb (x .owner / 2 ^ 13 % 2) 1 (omega arith)))
+    (λ t.
+    let s : ownerSound x ≡ true = owner-sound x h in
+    let a : eqb (partitionOf x) partition ≡ true = search conj in
+    let b : isReal x ≡ true = search conj in
+    let r : (not (isReal x) || eqb (contextOf x) 0) ≡ true = search conj in
+    let d : eqb (contextOf x) 0 ≡ true = or-other (not (isReal x)) _ r (ap not b) in
+    eq-eqb (x .owner) (ownerWord partition true 0) (omega (arith, eqb-true)))
+
+pub answers-live : (key : Key) (x : Slot) → answersTo key x ≡ true → isLive x ≡ true
+unfolding answersTo isCompared
+answers-live key x h = search conj
+
+-- two that answer to one key overlap
+answers-overlap : (key : Key) (x y : Slot) → KeyFits key → slotSound x ≡ true → slotSound y ≡ true → answersTo key x ≡ true → answersTo key y ≡ true
+    → overlaps x y ≡ true
+unfolding answersTo isCompared overlaps
+answers-overlap key x y f sx sy hx hy =
+    let ax : agrees key x ≡ true = search conj in
+    let ay : agrees key y ≡ true = search conj in
+    let ox : x .owner ≡ keyOwner key = eqb-true _ _ (owner-agrees key x f sx ∙ ax) in
+    let oy : y .owner ≡ keyOwner key = eqb-true _ _ (owner-agrees key y f sy ∙ ay) in
+    let px : holds x (keyAddress key) ≡ true = search conj in
+    let py : holds y (keyAddress key) ≡ true = search conj in
+    rw (answers-live key x hx, answers-live key y hy, eq-eqb _ _ (ox ∙ sym oy)) (pages-meet x y (keyAddress key) px py)
 
 -- ---- a sound side
 -- each slot is sound, also the one past the end
 pub sound-slot : (s : List Slot) (i : ℕ) → sideSound s ≡ true → slotSound (getD s i noSlot) ≡ true
 unfolding sideSound
 sound-slot s i h = all-get slotSound noSlot s i no-slot-sound (and-left _ _ h)
+
+-- at most one answers to a key
+pub one-answers : (key : Key) (s : List Slot) → KeyFits key → sideSound s ≡ true → count (answersTo key) s ≤ 1
+unfolding sideSound
+one-answers key s f h =
+    let q : Slot → Bool = λ x. slotSound x && answersTo key x in
+    let e : count q s ≡ count (answersTo key) s = count-where slotSound q (answersTo key) s (and-left _ _ h) (λ x k. rw k) in
+    let one : count q s ≤ 1 = count-one overlaps q s both (and-right (allOf slotSound s) _ h) in
+    omega arith
+  where
+    both : (x y : Slot) → (slotSound x && answersTo key x) ≡ true → (slotSound y && answersTo key y) ≡ true → overlaps x y ≡ true
+    both x y a b = answers-overlap key x y f (search conj) (search conj) (search conj) (search conj)
 
 -- kept by a map that keeps each slot sound and makes no overlap
 sound-map : (g : Slot → Slot) (s : List Slot) → ((x : Slot) → slotSound x ≡ true → slotSound (g x) ≡ true)

@@ -49,7 +49,7 @@ use Rattle.machine.proofs.Words.{insertable-sound}
 use Rattle.machine.proofs.Slots.{words-back, slots-back, words-length}
 use Rattle.machine.proofs.Insertion.{length-removed, length-inserted, no-slot}
 use Rattle.machine.proofs.Used.{SameSlots, found-slots}
-use Rattle.machine.proofs.Sound.{entry-sound, empty-sound, sound-removed, sound-set-used, sound-inserted}
+use Rattle.machine.proofs.Sound.{entry-sound, answers-live, empty-sound, sound-removed, sound-set-used, sound-inserted}
 
 ruleset conj = (and-left, and-right, eqb-true, ltb-true)
 
@@ -322,11 +322,9 @@ removed-sound n u side which h =
 -- the entry that a search found, marked
 pub marked-sound : (n : Counts) (u : State) (side i : ℕ) (key : Key) → sound n u ≡ true → first (answersTo key) (sideOf u side) ≡ At i
     → sound n (withSide u side (setUsed i (sideOf u side))) ≡ true
-unfolding answersTo
 marked-sound n u side i key h e =
     let s : List Slot = sideOf u side in
-    let hit : answersTo key (getD s i noSlot) ≡ true = found-at noSlot (answersTo key) s i e .1 in
-    let live : isLive (getD s i noSlot) ≡ true = search conj in
+    let live : isLive (getD s i noSlot) ≡ true = answers-live key _ (found-at noSlot (answersTo key) s i e .1) in
     sound-with-side n u h side _ (length-set s i _) (sound-set-used s i (sound-side n u h side .1) live)
 
 -- the slots of a sound state with other registers

@@ -215,10 +215,13 @@ inserts n l side e d =
 abbrev pub demaps : Ledger → ℕ → (Entry → Bool) → Written
 demaps l side p = answers (withEntries l side (without p (l .entries side))) (line 0 0 0 0 (howMany p (l .entries side)) 0)
 
--- of a partition, real or virtual as asked, if virtual of a context, and its page holds the address
+-- of a partition, real or virtual as asked, and if virtual of a context
+unfoldable pub isOf : ℕ → Bool → ℕ → Entry → Bool
+isOf partition real context e = eqb (e .partition) partition && (Bool·beq (e .real) real && (real || eqb (e .context) context))
+
+-- and its page holds the address
 unfoldable pub isAt : ℕ → Bool → ℕ → ℕ → Entry → Bool
-isAt partition real context address e =
-    eqb (e .partition) partition && (Bool·beq (e .real) real && ((real || eqb (e .context) context) && reaches e address))
+isAt partition real context address e = isOf partition real context e && reaches e address
 
 unfoldable pub inContext : ℕ → ℕ → Entry → Bool
 inContext partition context e = eqb (e .partition) partition && (not (e .real) && eqb (e .context) context)

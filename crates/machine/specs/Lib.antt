@@ -15,6 +15,7 @@ pub mod Views
 pub mod Ledger
 pub mod Places
 pub mod Demand3
+pub mod Searches
 pub mod Good
 pub mod Reference
 pub mod Demand1

@@ -1,17 +1,18 @@
 -- The slots of one side of a TLB ("buffer" in document 01), any number of them, and what a search of them finds.
 -- Assumes nothing.
-use Prim.Native.Nat.{ℕ, _+_, _*_, _/_, _%_, _^_}
+use Prim.Native.Nat.{ℕ, _+_, _*_, _/_, _%_, _^_, _<_}
 use mathlib.Core.List.{List, [], _∷_, map}
-use mathlib.Core.Bool.{Bool, true, false, _&&_}
+use mathlib.Core.Bool.{Bool, true, false, not, _&&_}
 use lib.Dec.{eqb}
 use lib.ListN.{getD, set}
 use lib.Seq.{sets}
-use Rattle.laws.specs.Tests.{tick, first}
+use Rattle.laws.specs.Tests.{tick, first, countUpTo}
 use Rattle.laws.specs.declared.Found.{Found}
 use Rattle.machine.specs.Pages.{pageStart}
 use Rattle.machine.specs.declared.Slot.{Slot}
 use Rattle.machine.specs.declared.Key.{Key}
 use Rattle.machine.specs.declared.Key.the-variants.{Virtual, Real}
+use Rattle.machine.specs.declared.Searched.{Searched}
 
 -- ---- slots and words: each determines the other
 -- four words a slot; fewer than four at the end are no slot
@@ -80,20 +81,34 @@ abbrev pub keyAddress : Key → ℕ
 keyAddress (Virtual partition context address) = address .0
 keyAddress (Real partition address) = address .0
 
--- partition, real bit and context agree
+-- a key whose partition and context have room in their places
+abbrev pub KeyFits : Key → Type 0
+KeyFits (Virtual partition context address) = (partition < 8) × (context < 2 ^ 13)
+KeyFits (Real partition address) = partition < 8
+
+-- document 02, U2: the partition is compared first, then the real bit, and the context only where the key is virtual
 abbrev pub agrees : Key → Slot → Bool
-agrees key x = eqb (x .owner) (keyOwner key)
+agrees (Virtual partition context address) x = eqb (partitionOf x) partition && (not (isReal x) && eqb (contextOf x) context)
+agrees (Real partition address) x = eqb (partitionOf x) partition && isReal x
 
 -- the page holds the address: rounded down to the page's size, it is the page's start
 abbrev pub holds : Slot → ℕ → Bool
 holds x address = eqb (pageStart (sizeCode x) address) (x .page)
 
--- a live entry of the key's owner whose page holds the key's address
+-- a slot whose page is compared: it agrees and is live. An empty one agrees with partition 0, virtual, context 0, and its page is no page
+unfoldable pub isCompared : Key → Slot → Bool
+isCompared key x = agrees key x && isLive x
+
+-- the page comes last: it holds the key's address
 unfoldable pub answersTo : Key → Slot → Bool
-answersTo key x = isLive x && (agrees key x && holds x (keyAddress key))
+answersTo key x = isCompared key x && holds x (keyAddress key)
 
 abbrev pub search : Key → List Slot → Found
 search key s = first (answersTo key) s
+
+-- what a search yields: the lowest slot that answers, and how many pages it compared, that one's too
+abbrev pub searched : Key → List Slot → Searched
+searched key s = record { found = search key s; compared = countUpTo (isCompared key) (answersTo key) s }
 
 -- ---- used bits
 abbrev pub withUsed : Slot → Slot

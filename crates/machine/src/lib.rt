@@ -12,6 +12,8 @@ ghost use Rattle.machine.specs.Reference.{Told};
 ghost use Rattle.machine.specs.Frame.{Framed, SoundKept};
 ghost use Rattle.machine.specs.Examples.{Starred, PrintedRun};
 ghost use Rattle.machine.specs.Format.{Readable, Decodes};
+ghost use Rattle.machine.specs.Searches.{Searches};
+use laws::Found;
 
 // Registers by number: document 01, "Registers". One that each side has stands at the number given plus the side.
 pub const PARTITION: u8 = 0;
@@ -107,6 +109,12 @@ pub struct Slot {
     pub page: u64,
     pub word: u64,
     pub flags: u64,
+}
+
+// What a search of slots yields: the slot found, and how many pages were compared.
+pub struct Searched {
+    pub found: Found,
+    pub compared: usize,
 }
 
 // Which entries a removal takes.
@@ -326,6 +334,7 @@ pub fn answer_width() -> usize
     ensures described { λ r. ⌜ ((n : Counts) → Described n) ⌝ }
     ensures sound { λ r. ⌜ SoundKept ⌝ }
     ensures framed { λ r. ⌜ Framed ⌝ }
+    ensures searches { λ r. ⌜ ((n : Counts) → Searches n) ⌝ }
     ensures decodes { λ r. ⌜ Decodes ⌝ }
     ensures starred { λ r. ⌜ Starred ⌝ }
     ensures printed { λ r. ⌜ PrintedRun ⌝ }

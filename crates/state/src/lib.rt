@@ -3,7 +3,7 @@ ghost use mathlib.Core.Path.{_≡_};
 ghost use Prim.Native.Nat.{_+_, _*_, _<_};
 ghost use lib.ListN.{length, getD};
 ghost use Rattle.laws.specs.Tests.{count};
-ghost use Rattle.machine.specs.Slots.{noSlot, slotsOf, search, setUsed};
+ghost use Rattle.machine.specs.Slots.{noSlot, slotsOf, KeyFits, search, searched, setUsed};
 ghost use Rattle.machine.specs.Insertion.{removed, removes, candidate, inserted, placed, hasSlot};
 ghost use Rattle.machine.specs.Registers.{register, withRegister};
 ghost use Rattle.machine.specs.State.{counts, stateIn, encode, sideOf, withRegisters, wordsSound, resetOf, resetNumber};
@@ -13,6 +13,7 @@ use laws::Found;
 use machine::Key;
 use machine::Placed;
 use machine::Removal;
+use machine::Searched;
 use machine::Slot;
 
 // Where side 1 starts.
@@ -60,10 +61,10 @@ fn side_of(state: &[u64], side: u8) -> &[u64]
     &state[start..end]
 }
 
-// The lowest live slot of a side that answers to the key.
-pub fn search_side(state: &[u64], side: u8, key: Key) -> Found
-    requires { ⌜ Lent (now state) × (side < 2) ⌝ }
-    ensures { λ r. ⌜ r ≡ search key (sideOf (stateIn (now (state .entry))) side) ⌝ }
+// The lowest slot of a sound side that answers to the key, and how many pages were compared.
+pub fn search_side(state: &[u64], side: u8, key: Key) -> Searched
+    requires { ⌜ Lent (now state) × (side < 2) × SoundIn (now state) × KeyFits key ⌝ }
+    ensures { λ r. ⌜ r ≡ searched key (sideOf (stateIn (now (state .entry))) side) ⌝ }
 {
     tlb::search(side_of(state, side), key)
 }
@@ -84,18 +85,18 @@ fn hint_place(side: u8, key: Key) -> usize
     ((mixed * 0xB394_E127 >> 24 ^ (side as u64) << 7) % 256) as usize
 }
 
-// The same as `search_side`, on a sound state. A hint is the slot of an earlier answer, and is not believed: the slot is asked, and where it
-// answers no other does.
+// The slot that `search_side` finds. A hint is the slot of an earlier answer, and is not believed: the slot is asked, and where it answers no
+// other does. Then there is no search, and no count of pages.
 pub fn search_hinted(state: &[u64], hints: &mut [u8; 256], side: u8, key: Key) -> Found
-    requires { ⌜ Lent (now state) × (side < 2) × SoundIn (now state) ⌝ }
+    requires { ⌜ Lent (now state) × (side < 2) × SoundIn (now state) × KeyFits key ⌝ }
     ensures { λ r. ⌜ r ≡ search key (sideOf (stateIn (now (state .entry))) side) ⌝ }
 {
     let at = hint_place(side, key);
     let hint = (hints[at] % (machine::SIDE_SLOTS as u8)) as usize;
-    if tlb_update::answers(slot_of(state, side, hint), key) {
+    if tlb::answers(slot_of(state, side, hint), key) {
         return Found::At(hint);
     }
-    let found = search_side(state, side, key);
+    let found = search_side(state, side, key).found;
     if let Found::At(i) = found {
         hints[at] = (i % machine::SIDE_SLOTS) as u8;
     }

@@ -1,7 +1,7 @@
--- What a walk of the slots asks of one slot: the owner, the page against a prepared table, then bit 63. Assumes nothing.
+-- What a walk of the slots asks of one slot: the owner, bit 63, then the page against a prepared table. Assumes nothing.
 use Prim.Native.Nat.{ℕ, _*_, _/_, _^_, _≤_, _<_, max}
 use mathlib.Core.Path.{_≡_, ap, sym, _∙_}
-use mathlib.Core.Bool.{Bool, true, false, _&&_, and-assoc, and-comm, and-false, or-comm}
+use mathlib.Core.Bool.{true, false, and-false, or-comm}
 use mathlib.Core.List.{List}
 use native.Mathlib.Omega.{arith}
 use native.Mathlib.Nat.{div-eq-of-lt, div-lt-iff-lt-mul, le-trans, le-max-left, le-max-right, max-eq-left}
@@ -16,9 +16,11 @@ use Rattle.machine.specs.declared.Key.{Key}
 use Rattle.machine.specs.declared.Slot.{Slot}
 use Rattle.machine.specs.Pages.{pageShift, pageSize, pageStart}
 use Rattle.machine.proofs.Pages.{start-block}
-use Rattle.machine.specs.Slots.{isLive, sizeCode, agrees, holds, keyOwner, keyAddress, answersTo}
+use Rattle.machine.specs.Slots.{isLive, sizeCode, holds, keyOwner, keyAddress, KeyFits, isCompared, answersTo}
 use Rattle.machine.specs.Insertion.{overlaps}
-use Rattle.tlb.specs.Tables.{byCode, startsOf, spansOf, answersBy}
+use Rattle.machine.specs.Sound.{slotSound}
+use Rattle.machine.proofs.Sound.{owner-agrees}
+use Rattle.tlb.specs.Tables.{byCode, startsOf, spansOf, comparedBy, answersBy}
 
 -- a table at a size code
 by-code : (other : ℕ) (f : ℕ → ℕ) (code : ℕ) → other ≡ f 0 → code < 16 → getD (byCode other f) code 0 ≡ f (pageShift code)
@@ -49,12 +51,15 @@ span-at x code h = by-code (pageSize x) (λ k. max (pageSize x) (2 ^ k)) code (s
 page-asked : (x : Slot) (a : ℕ) → holds x a ≡ eqb (getD (startsOf a) (sizeCode x) 0) (x .page)
 page-asked x a = ap (λ (n : ℕ). eqb n (x .page)) (sym (start-at a (sizeCode x) (omega arith)))
 
--- to answer by the prepared starts is to answer
-pub asked : (key : Key) (x : Slot) → answersBy (keyOwner key) (startsOf (keyAddress key)) x ≡ answersTo key x
-unfolding answersBy answersTo
-asked key x =
-    let page : Bool = eqb (getD (startsOf (keyAddress key)) (sizeCode x) 0) (x .page) in
-    rw (page-asked x (keyAddress key)) (sym (and-assoc (agrees key x) page (isLive x)) ∙ and-comm (agrees key x && page) (isLive x))
+-- on a sound slot: to be compared by the owner word is to be compared, and to answer by the prepared starts is to answer
+module _ (key : Key) (f : KeyFits key) (x : Slot) (h : slotSound x ≡ true) where
+  pub compared-asked : comparedBy (keyOwner key) x ≡ isCompared key x
+  unfolding comparedBy isCompared
+  compared-asked = rw (owner-agrees key x f h)
+
+  pub asked : answersBy (keyOwner key) (startsOf (keyAddress key)) x ≡ answersTo key x
+  unfolding answersBy answersTo
+  asked = rw (compared-asked, page-asked x (keyAddress key))
 
 -- ---- whether x overlaps y
 xor-zero : (a b : ℕ) → bitXor a b ≡ 0 → a ≡ b

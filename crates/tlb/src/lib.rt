@@ -1,16 +1,19 @@
 // The slots of one side of a TLB as lent words, four a slot, any number of them: read, store, search, used bits, overlap.
 ghost use mathlib.Core.Path.{_≡_};
-ghost use mathlib.Core.Bool.{not};
+ghost use mathlib.Core.Bool.{true, not};
 ghost use Prim.Native.Nat.{_+_, _*_, _<_, _≤_, _%_, max};
 ghost use lib.ListN.{length, drop};
-ghost use Rattle.laws.specs.Tests.{anyOf, first};
+ghost use Rattle.laws.specs.Tests.{anyOf};
 ghost use Rattle.machine.specs.Pages.{pageSize};
-ghost use Rattle.machine.specs.Slots.{slotsOf, wordsOf, slotOf, withSlot, onSlot, ownerWord, keyOwner, keyAddress, search, withUsed, clearUsed};
+ghost use Rattle.machine.specs.Slots.{slotsOf, wordsOf, slotOf, withSlot, onSlot, ownerWord, keyOwner, keyAddress, KeyFits};
+ghost use Rattle.machine.specs.Slots.{agrees, answersTo, searched, withUsed, clearUsed};
 ghost use Rattle.machine.specs.Slots.{isLive, sizeCode, partitionOf, isReal, contextOf, isLocked, isUsed, holds};
 ghost use Rattle.machine.specs.Insertion.{overlaps};
-ghost use Rattle.tlb.specs.Tables.{startsOf, spansOf, answersBy, foundFrom, Skips};
+ghost use Rattle.machine.specs.Sound.{slotSound, sideSound};
+ghost use Rattle.tlb.specs.Tables.{startsOf, spansOf, comparedBy, startsBy, searchedFrom, Walks};
 use laws::Found;
 use machine::Key;
+use machine::Searched;
 use machine::Slot;
 
 // Slot i, its words as they are.
@@ -132,6 +135,23 @@ pub fn key_address(key: Key) -> u64
     }
 }
 
+// Whether any slot agrees with a key: partition, then real bit, and context only where the key is virtual.
+pub fn agrees(x: Slot, key: Key) -> bool
+    ensures { λ r. ⌜ r ≡ agrees key x ⌝ }
+{
+    match key {
+        Key::Virtual {
+            partition,
+            context,
+            address: _,
+        } => partition_of(x) == partition && (!is_real(x) && context_of(x) == context),
+        Key::Real {
+            partition,
+            address: _,
+        } => partition_of(x) == partition && is_real(x),
+    }
+}
+
 // Where a page that holds the address starts, by size code.
 fn starts(address: u64) -> [u64; 16]
     ensures { λ r. ⌜ r ≡ startsOf address ⌝ }
@@ -144,94 +164,105 @@ fn starts(address: u64) -> [u64; 16]
     start
 }
 
-// Whether slot i is live, of the owner, and of a page with the start that is given for its size code.
-fn answers_at(slots: &[u64], i: usize, owner: u64, start: &[u64; 16]) -> bool
+// Whether slot i is of the owner and live: then its page is compared. An empty slot looks like owner 0, page 0.
+fn compared_at(slots: &[u64], i: usize, owner: u64) -> bool
     requires { ⌜ i * 4 + 4 ≤ length (now slots) ⌝ }
-    ensures { λ r. ⌜ r ≡ answersBy owner (now (start .entry)) (slotOf (now (slots .entry)) i) ⌝ }
+    ensures { λ r. ⌜ r ≡ comparedBy owner (slotOf (now (slots .entry)) i) ⌝ }
 {
-    let x = slot_at(slots, i);
-    let code = size_code(x) as usize;
-    // an empty slot looks like owner 0, page 0
-    x.owner == owner && (start[code] == x.page && is_live(x))
+    let k = i * machine::SLOT_WORDS;
+    slots[k] == owner && slots[k + 2] >> 63 == 1
 }
 
-// The lowest slot from the one given on that answers by the starts.
-fn search_rest(slots: &[u64], from: usize, owner: u64, start: &[u64; 16]) -> Found
-    ensures { λ r. ⌜ r ≡ foundFrom owner (now (start .entry)) (now (slots .entry)) from ⌝ }
+// Whether the page of slot i has the start that is given for its size code.
+fn starts_at(slots: &[u64], i: usize, start: &[u64; 16]) -> bool
+    requires { ⌜ i * 4 + 4 ≤ length (now slots) ⌝ }
+    ensures { λ r. ⌜ r ≡ startsBy (now (start .entry)) (slotOf (now (slots .entry)) i) ⌝ }
 {
-    let n = slots.len() / machine::SLOT_WORDS;
-    let mut i = from;
-    while i < n {
-        if answers_at(slots, i, owner, start) {
-            return Found::At(i);
+    let k = i * machine::SLOT_WORDS;
+    let code = (slots[k + 2] % 16) as usize;
+    start[code] == slots[k + 1]
+}
+
+// What a walk of some slots comes to: how many it passed before the first that answers, and how many pages it compared, with that one's.
+struct Walked {
+    passed: usize,
+    compared: usize,
+}
+
+// A walk of a number of slots, from the one given on. The page comes last, and each page compared is counted.
+fn walk(slots: &[u64], from: usize, number: usize, owner: u64, start: &[u64; 16]) -> Walked
+    requires { ⌜ (from + number) * 4 ≤ length (now slots) ⌝ }
+    ensures few { λ r. ⌜ (r .passed ≤ number) × (r .compared ≤ number) ⌝ }
+    ensures walked { λ r. ⌜ Walks owner (now (start .entry)) (now (slots .entry)) from number r ⌝ }
+{
+    let mut compared = 0;
+    let mut i = 0;
+    while i < number {
+        if compared_at(slots, from + i, owner) {
+            compared += 1;
+            if starts_at(slots, from + i, start) {
+                return Walked {
+                    passed: i,
+                    compared: compared,
+                };
+            }
         }
         i += 1;
     }
-    Found::Nothing
+    Walked {
+        passed: number,
+        compared: compared,
+    }
 }
 
-// How many of four slots, from the one given on, come before the first that answers.
-fn skip_four(slots: &[u64], from: usize, owner: u64, start: &[u64; 16]) -> usize
-    requires { ⌜ from * 4 + 16 ≤ length (now slots) ⌝ }
-    ensures { λ r. ⌜ (r ≤ 4) × Skips owner (now (start .entry)) (now (slots .entry)) from (from + r) ⌝ }
-{
-    if answers_at(slots, from, owner, start) {
-        return 0;
-    }
-    if answers_at(slots, from + 1, owner, start) {
-        return 1;
-    }
-    if answers_at(slots, from + 2, owner, start) {
-        return 2;
-    }
-    if answers_at(slots, from + 3, owner, start) {
-        return 3;
-    }
-    4
-}
-
-// A slot up to which none answers. Most do not: sixteen a turn.
-fn skip(slots: &[u64], owner: u64, start: &[u64; 16]) -> usize
-    ensures { λ r. ⌜ Skips owner (now (start .entry)) (now (slots .entry)) 0 r ⌝ }
+// The lowest slot that answers by the starts, and the pages compared: sixteen slots a turn, which the compiler lays out one after the other.
+fn search_starts(slots: &[u64], owner: u64, start: &[u64; 16]) -> Searched
+    ensures { λ r. ⌜ r ≡ searchedFrom owner (now (start .entry)) (now (slots .entry)) 0 ⌝ }
 {
     let n = slots.len() / machine::SLOT_WORDS;
+    let mut compared = 0;
     let mut i = 0;
     while i + 15 < n {
-        let a = skip_four(slots, i, owner, start);
-        if a != 4 {
-            return i + a;
-        }
-        let b = skip_four(slots, i + 4, owner, start);
-        if b != 4 {
-            return i + 4 + b;
-        }
-        let c = skip_four(slots, i + 8, owner, start);
-        if c != 4 {
-            return i + 8 + c;
-        }
-        let d = skip_four(slots, i + 12, owner, start);
-        if d != 4 {
-            return i + 12 + d;
+        let turn = walk(slots, i, 16, owner, start);
+        compared += turn.compared;
+        if turn.passed != 16 {
+            return Searched {
+                found: Found::At(i + turn.passed),
+                compared: compared,
+            };
         }
         i += 16;
     }
-    i
+    let rest = walk(slots, i, n - i, owner, start);
+    compared += rest.compared;
+    if rest.passed != n - i {
+        return Searched {
+            found: Found::At(i + rest.passed),
+            compared: compared,
+        };
+    }
+    Searched {
+        found: Found::Nothing,
+        compared: compared,
+    }
 }
 
-// The lowest slot that answers by the starts.
-fn search_starts(slots: &[u64], owner: u64, start: &[u64; 16]) -> Found
-    ensures { λ r. ⌜ r ≡ first (answersBy owner (now (start .entry))) (slotsOf (now (slots .entry))) ⌝ }
-{
-    let from = skip(slots, owner, start);
-    search_rest(slots, from, owner, start)
-}
-
-// The lowest live slot that answers to the key.
-pub fn search(slots: &[u64], key: Key) -> Found
-    ensures { λ r. ⌜ r ≡ search key (slotsOf (now (slots .entry))) ⌝ }
+// The lowest slot of a sound side that answers to the key, and how many pages were compared. One comparison of owner words settles partition,
+// real bit and context.
+pub fn search(slots: &[u64], key: Key) -> Searched
+    requires { ⌜ (sideSound (slotsOf (now slots)) ≡ true) × KeyFits key ⌝ }
+    ensures { λ r. ⌜ r ≡ searched key (slotsOf (now (slots .entry))) ⌝ }
 {
     let start = starts(key_address(key));
     search_starts(slots, key_owner(key), &start)
+}
+
+// The same of one sound slot.
+pub fn answers(x: Slot, key: Key) -> bool
+    requires { ⌜ (slotSound x ≡ true) × KeyFits key ⌝ }
+    ensures { λ r. ⌜ r ≡ answersTo key x ⌝ }
+{
+    x.owner == key_owner(key) && (holds(x, key_address(key)) && is_live(x))
 }
 
 // Sets the used bit of slot i.

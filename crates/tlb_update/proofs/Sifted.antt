@@ -15,7 +15,7 @@ use Rattle.machine.specs.declared.Key.{Key}
 use Rattle.machine.specs.declared.Removal.{Removal}
 use Rattle.machine.specs.declared.Removal.the-variants.{Page, Context, Unlocked, Everything, Overlapping}
 use Rattle.machine.specs.Pages.{pageShift, pageSize, pageStart}
-use Rattle.machine.specs.Slots.{isLive, isLocked, partitionOf, sizeCode, slotOf, ownerWord, keyAddress, agrees, holds, answersTo}
+use Rattle.machine.specs.Slots.{isLive, isLocked, partitionOf, sizeCode, slotOf, ownerWord, keyAddress, holds, isCompared, answersTo}
 use Rattle.machine.specs.Insertion.{removes}
 use Rattle.machine.proofs.Pages.{start-block}
 use Rattle.machine.proofs.Slots.{slotAt, on-slot}
@@ -34,8 +34,7 @@ pub page-sifts : (key : Key) → Sifts (Page key) (Pages (keyAddress key) 1)
 unfolding removes answersTo pageShift passes
 page-sifts key x _ _ h =
     let a : ℕ = keyAddress key in
-    let r : (agrees key x && holds x a) ≡ true = and-right (isLive x) _ h in
-    let e : pageStart (sizeCode x) a ≡ x .page = eqb-true _ _ (and-right (agrees key x) (holds x a) r) in
+    let e : pageStart (sizeCode x) a ≡ x .page = eqb-true _ _ (and-right (isCompared key x) (holds x a) h) in
     let s : getD (spansOf (pageSize 2)) (sizeCode x) 0 ≡ max (pageSize 2) (pageSize (sizeCode x)) = span-at 2 (sizeCode x) (omega arith) in
     let n : bitXor a (x .page) < pageSize (sizeCode x) = near a (x .page) (pageShift (sizeCode x)) (sym (start-block (sizeCode x) (x .page) a e)) in
     le-leb (bitXor a (x .page)) (getD (spansOf (pageSize 2)) (sizeCode x) 0)

@@ -24,11 +24,11 @@ fn owned_by(x: Slot, owner: u64) -> bool
     tlb::is_live(x) && x.owner == owner
 }
 
-// The entry that answers to a key.
-pub fn answers(x: Slot, key: Key) -> bool
+// The entry that answers to a key, whether its slot is sound or not. What passes the sieve mostly has the page: that is asked first.
+fn answers(x: Slot, key: Key) -> bool
     ensures { λ r. ⌜ r ≡ answersTo key x ⌝ }
 {
-    x.owner == tlb::key_owner(key) && (tlb::holds(x, tlb::key_address(key)) && tlb::is_live(x))
+    tlb::holds(x, tlb::key_address(key)) && (tlb::is_live(x) && tlb::agrees(x, key))
 }
 
 // A partition's unlocked entry.

@@ -19,6 +19,13 @@ take-trap-requires c κs =
     let fits = rw (at .prepared .given .1) at (prepare .prepare-access .ensures .1) in
     (s .pre .0, s .pre .1, fits .0, fits .1)
 
+look-up-requires : tie.Need-look-up-requires
+look-up-requires c κs =
+    let at = c .before .before .before in
+    let prepare = at .before .before in
+    let s = prepare .before .before .before in
+    (s .pre .0, s .pre .1, s .pre .3, rw (at .prepared3 .given .1) at (prepare .prepare-access .ensures .1))
+
 returns : tie.Need-returns
 returns c =
     let call = c .before .before in
@@ -47,7 +54,7 @@ access-to-spec =
     take-trap-requires
     (λ c. search needs)
     (λ c. search needs)
-    (λ c κs. search needs)
+    look-up-requires
     (λ c. search needs)
     returns
     (λ c. search needs)

@@ -84,9 +84,9 @@ returns-5 c =
         ne-eqb _ _ (three .if3 .left),
         ← (four .before .in-range .ensures),
         four .if4 .left,
-        c .key-of-access .ensures,
+        c .key-of-access .ensures .0,
       ),
-      tt,
+      c .key-of-access .ensures .1,
     )
 
 pub prepare-access-spec : {M : Type 1} → statement M

@@ -1,54 +1,51 @@
--- `tlb_update::answers` meets its contract: the owner first, which most slots fail; the order is nothing to a test.
-use mathlib.Core.Path.{_≡_, sym, _∙_}
-use mathlib.Core.Bool.{Bool, _&&_, and-assoc, and-comm}
+-- `tlb_update::answers` meets its contract; the order is nothing to a test.
+use mathlib.Core.Path.{_≡_, ap, sym, _∙_}
+use mathlib.Core.Bool.{Bool, _&&_, and-comm}
 use borrow.Author.Needs.{needs}
-use borrow.Author.Tests.{eq-eqb, ne-eqb}
-use Rattle.machine.specs.Slots.{isLive, keyAddress, agrees, holds, answersTo}
+use Rattle.machine.specs.Slots.{isLive, keyAddress, agrees, holds, isCompared, answersTo}
 use Rattle.tlb_update.proofs.answers.Statement.{statement}
 use Rattle.tlb_update.proofs.answers.Tie as tie
 
--- the last of three tests first
-turned : (o h l : Bool) → (l && (o && h)) ≡ (o && (h && l))
-turned o h l = and-comm l (o && h) ∙ and-assoc o h l
+-- three tests, the last one first
+turned : (a l h : Bool) → ((a && l) && h) ≡ (h && (l && a))
+turned a l h = and-comm (a && l) h ∙ ap (λ (b : Bool). h && b) (and-comm a l)
 
 returns : tie.Need-returns
-unfolding answersTo
+unfolding answersTo isCompared
 returns c =
-    let page = c .before .before in
-    let at1 = page .before .before in
-    let s = at1 .before .before .before .args in
+    let live = c .before .before in
+    let page = live .before .before in
+    let s = page .before .before .args in
     rw (
-      turned (agrees (s .key) (s .x)) (holds (s .x) (keyAddress (s .key))) (isLive (s .x)),
-      ← (at1 .before .before .key-owner .ensures),
-      eq-eqb _ _ (at1 .if1 .taken),
+      turned (agrees (s .key) (s .x)) (isLive (s .x)) (holds (s .x) (keyAddress (s .key))),
       ← (page .before .key-address .ensures),
-      sym (page .holds .ensures) ∙ c .before .if2 .taken,
-      c .is-live .ensures,
-    )
+      sym (page .holds .ensures) ∙ live .before .if1 .taken,
+      sym (live .is-live .ensures) ∙ c .before .if2 .taken,
+    ) (c .agrees .ensures)
 
 returns-2 : tie.Need-returns-2
-unfolding answersTo
+unfolding answersTo isCompared
 returns-2 c =
-    let page = c .before in
-    let at1 = page .before .before in
-    let s = at1 .before .before .before .args in
+    let live = c .before in
+    let page = live .before .before in
+    let s = page .before .before .args in
     rw (
-      turned (agrees (s .key) (s .x)) (holds (s .x) (keyAddress (s .key))) (isLive (s .x)),
-      ← (at1 .before .before .key-owner .ensures),
-      eq-eqb _ _ (at1 .if1 .taken),
+      turned (agrees (s .key) (s .x)) (isLive (s .x)) (holds (s .x) (keyAddress (s .key))),
       ← (page .before .key-address .ensures),
-      sym (page .holds .ensures) ∙ c .if2 .left,
+      sym (page .holds .ensures) ∙ live .before .if1 .taken,
+      sym (live .is-live .ensures) ∙ c .if2 .left,
     ) (c .if2 .left)
 
 returns-3 : tie.Need-returns-3
-unfolding answersTo
+unfolding answersTo isCompared
 returns-3 c =
-    let s = c .before .before .before .args in
+    let page = c .before in
+    let s = page .before .before .args in
     rw (
-      turned (agrees (s .key) (s .x)) (holds (s .x) (keyAddress (s .key))) (isLive (s .x)),
-      ← (c .before .before .key-owner .ensures),
-      ne-eqb _ _ (c .if1 .left),
-    )
+      turned (agrees (s .key) (s .x)) (isLive (s .x)) (holds (s .x) (keyAddress (s .key))),
+      ← (page .before .key-address .ensures),
+      sym (page .holds .ensures) ∙ c .if1 .left,
+    ) (c .if1 .left)
 
 pub answers-spec : {M : Type 1} → statement M
 answers-spec =
