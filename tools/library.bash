@@ -68,10 +68,20 @@ prove() {
     rt check "$@" 2>&1 | tee "$log" | tell_progress "$mark" "${crates[@]}" || tell_failure "$log"
 }
 
+# build_archives NAME ..: target/staticlib/libNAME.a of each crate, where it is older than the proof.
+build_archives() {
+    local crate log=target/library/staticlib.log
+    for crate; do
+        if [ "target/staticlib/lib$crate.a" -nt "target/stamp/$crate" ]; then continue; fi
+        echo "building lib$crate.a .." >&2
+        rt staticlib "$crate" >"$log" 2>&1 || tell_failure "$log"
+    done
+}
+
 # need_library [PROGRAM ..]: the folder in T1MMU_LIB has the library's two archives; where it is not set, they are proved and built.
 # Leaves T1MMU_LIB set, for cargo's build scripts too, and the archives in `library`. The programs are proved and built as well.
 need_library() {
-    local crate log=target/library/staticlib.log archives=(t1mmu t1mmu_miss)
+    local crate archives=(t1mmu t1mmu_miss)
     if [ -n "${T1MMU_LIB:-}" ]; then
         for crate in "${archives[@]}"; do
             [ -f "$T1MMU_LIB/lib$crate.a" ] || { echo "missing: lib$crate.a in $T1MMU_LIB, which T1MMU_LIB names" >&2; exit 1; }
@@ -81,11 +91,7 @@ need_library() {
     else
         T1MMU_LIB=$PWD/target/staticlib
         prove "${archives[@]}" "$@"
-        for crate in "${archives[@]}"; do
-            if [ "$T1MMU_LIB/lib$crate.a" -nt "target/stamp/$crate" ]; then continue; fi
-            echo "building lib$crate.a .." >&2
-            rt staticlib "$crate" >"$log" 2>&1 || tell_failure "$log"
-        done
+        build_archives "${archives[@]}"
     fi
     library=("${archives[@]/#/$T1MMU_LIB/lib}")
     library=("${library[@]/%/.a}")
