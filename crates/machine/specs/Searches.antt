@@ -16,15 +16,16 @@ use Rattle.machine.specs.Good.{entriesIn, ReferenceGood}
 use Rattle.machine.specs.declared.Searched.{Searched}
 use Rattle.machine.specs.declared.VirtualAddress.{VirtualAddress}
 
--- places s and entries m of a side; whose entries are asked for; the address
-pub record SearchSays (s : List Place) (m : List Entry) (asked : Entry → Bool) (found : Entry → Bool) (r : Searched) : Type 0 where
-  -- a slot is found: it holds the entry, and compared were the pages of those asked for in the places up to it and in it
+-- s are the places of a side, m the ledger's list of it; `asked` are the entries of one partition, realness and, if virtual, context, and `found`
+-- those of them whose page holds the address; r is what the search yields
+pub record SearchSays (s : List Place) (m : List Entry) (asked found : Entry → Bool) (r : Searched) : Type 0 where
+  -- with a slot found: it holds such an entry, and the pages compared are those of the entries asked for in the places up to it, it included
   pub hit : (i : ℕ) → r .found ≡ At i
       → (e : Entry) × (used : Bool) × (getD s i empty ≡ filled e used) × (found e ≡ true) × (r .compared ≡ howMany asked (entriesIn (take (i + 1) s)))
-  -- none is: the ledger has no such entry, and compared were the pages of all those asked for
+  -- with none: the ledger has no such entry, and the pages compared are those of all entries asked for
   pub miss : r .found ≡ Nothing → (howMany found m ≡ 0) × (r .compared ≡ howMany asked m)
 
--- on every sound side, for every partition, context and address
+-- on either side of every sound state, for every partition, context and address
 unfoldable pub Searches : Counts → Type 0
 Searches n = (k : Reference) → ReferenceGood (slotCount n) k → (side : ℕ) → side < 2
     → (partition : ℕ) (real : Bool) (context : ℕ) (address : VirtualAddress) → partition ≤ 7 → context ≤ 8191

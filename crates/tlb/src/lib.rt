@@ -135,7 +135,7 @@ pub fn key_address(key: Key) -> u64
     }
 }
 
-// Whether any slot agrees with a key: partition, then real bit, and context only where the key is virtual.
+// Whether a slot agrees with a key, sound or not: partition, then real bit, and context only where the key is virtual.
 pub fn agrees(x: Slot, key: Key) -> bool
     ensures { λ r. ⌜ r ≡ agrees key x ⌝ }
 {
@@ -164,7 +164,8 @@ fn starts(address: u64) -> [u64; 16]
     start
 }
 
-// Whether slot i is of the owner and live: then its page is compared. An empty slot looks like owner 0, page 0.
+// Whether slot i is of the owner and live: then its page is compared. An empty slot looks like owner 0, page 0. Word by word: of a slot of
+// another owner only the first is read.
 fn compared_at(slots: &[u64], i: usize, owner: u64) -> bool
     requires { ⌜ i * 4 + 4 ≤ length (now slots) ⌝ }
     ensures { λ r. ⌜ r ≡ comparedBy owner (slotOf (now (slots .entry)) i) ⌝ }
@@ -257,7 +258,7 @@ pub fn search(slots: &[u64], key: Key) -> Searched
     search_starts(slots, key_owner(key), &start)
 }
 
-// The same of one sound slot.
+// Whether one sound slot answers to the key, by its owner word too.
 pub fn answers(x: Slot, key: Key) -> bool
     requires { ⌜ (slotSound x ≡ true) × KeyFits key ⌝ }
     ensures { λ r. ⌜ r ≡ answersTo key x ⌝ }
