@@ -35,7 +35,7 @@ extern "C" {
 
 /* ---- sizes ---- */
 
-#define T1MMU_VERSION 0x010100u /* 1.1.0: major * 65536 + minor * 256 + patch */
+#define T1MMU_VERSION 0x010101u /* 1.1.1: major * 65536 + minor * 256 + patch */
 #define T1MMU_STATE_WORDS 640   /* the strands' register cells, then the slots of side 0, then those of side 1 */
 #define T1MMU_ANSWER_BYTES 24
 #define T1MMU_STRANDS 4
