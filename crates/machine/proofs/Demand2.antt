@@ -12,7 +12,7 @@ use borrow.Author.Tests.{ltb-true, ltb-false, lt-ltb}
 use Rattle.laws.specs.Tests.{first}
 use Rattle.laws.specs.declared.Found.{Found}
 use Rattle.laws.specs.declared.Found.the-variants.{At, Nothing}
-use Rattle.laws.proofs.Bools.{by-test, clash, and-left}
+use Rattle.laws.proofs.Bools.{by-test, clash}
 use Rattle.laws.proofs.Walks.{found-at}
 use Rattle.machine.specs.Pages.{inRange}
 use Rattle.machine.specs.Words.{bits, unpacked, packed, fields, wordSound, physicalAt}

@@ -1,12 +1,11 @@
 -- What a search of a sound side finds and compares, told by the ledger's entries and their places. Assumes nothing.
-use Prim.Native.Nat.{ℕ, zero, suc, _+_, _<_}
+use Prim.Native.Nat.{ℕ, zero, suc, _+_}
 use mathlib.Core.Path.{_≡_, refl, ap, sym, _∙_}
 use mathlib.Core.Bool.{Bool, true}
 use mathlib.Core.List.{List, [], _∷_, map}
-use native.Mathlib.Omega.{arith}
 use lib.ListN.{getD, take, List·getD-map}
 use Rattle.laws.specs.Tests.{count, countUpTo, first}
-use Rattle.laws.specs.declared.Found.the-variants.{At, Nothing}
+use Rattle.laws.specs.declared.Found.the-variants.{At}
 use Rattle.laws.proofs.Bools.{and-left}
 use Rattle.laws.proofs.Counts.{none-count}
 use Rattle.laws.proofs.Walks.{found-at, found-none}

@@ -151,7 +151,10 @@ key-fits partition false context address p c = (p, c)
 pub owner-test : (partition : ℕ) (real : Bool) (context : ℕ) (address : VirtualAddress)
     → SameTest (isCompared (keyOf real partition context address)) (isOf partition real context)
 unfolding isCompared isOf
-owner-test partition real context address = record { agree = λ x h l. agree real x l; live = λ x e. and-right (agrees (keyOf real partition context address) x) _ e }
+owner-test partition real context address = record {
+  agree = λ x h l. agree real x l;
+  live = λ x e. and-right (agrees (keyOf real partition context address) x) _ e;
+}
   where
     agree : (real : Bool) (x : Slot) → isLive x ≡ true → isCompared (keyOf real partition context address) x ≡ isOf partition real context (entryIn x)
     agree true x l = rw (l, same-yes (isReal x)) (and-assoc (eqb (partitionOf x) partition) (isReal x) true)

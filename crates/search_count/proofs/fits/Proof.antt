@@ -1,5 +1,5 @@
 -- `search_count::fits` meets its contract, for either key.
-use mathlib.Core.Path.{ap, sym, _∙_}
+use mathlib.Core.Path.{ap, sym}
 use borrow.Author.Needs.{needs}
 use borrow.Author.Tests.{lt-ltb, le-ltb}
 use Rattle.search_count.specs.Counted.{fits}

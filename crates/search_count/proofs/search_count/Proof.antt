@@ -1,10 +1,6 @@
 -- `search_count::search_count` meets its contract.
-use mathlib.Core.Path.{_≡_, ap, sym, _∙_}
 use borrow.Author.Needs.{needs}
-use Rattle.machine.specs.Slots.{slotsOf}
-use Rattle.machine.specs.declared.Searched.{Searched}
 use Rattle.machine.proofs.Slots.{slots-length}
-use Rattle.search_count.specs.Counted.{searchedAny}
 use Rattle.search_count.proofs.search_count.Statement.{statement}
 use Rattle.search_count.proofs.search_count.Tie as tie
 

@@ -10,7 +10,8 @@ returns c =
     let at2 = c .before in
     let at1 = at2 .before .before in
     let at = at1 .before in
-    rw (at .before .before .key .given .1, ← (at .partition-of .ensures), eq-eqb _ _ (at1 .if1 .taken), ← (at2 .before .is-real .ensures), at2 .if2 .taken, ← (c .context-of .ensures))
+    rw (at .before .before .key .given .1, ← (at .partition-of .ensures), eq-eqb _ _ (at1 .if1 .taken))
+    (rw (← (at2 .before .is-real .ensures), at2 .if2 .taken, ← (c .context-of .ensures)))
 
 returns-2 : tie.Need-returns-2
 returns-2 c =

@@ -1,6 +1,6 @@
 -- `tlb::search_starts` meets its contract. The invariant: the slots up to i are passed.
-use Prim.Native.Nat.{ℕ, _+_, _-_, _≤_}
-use mathlib.Core.Path.{_≡_, refl, sym}
+use Prim.Native.Nat.{_-_, _≤_}
+use mathlib.Core.Path.{refl, sym}
 use native.Mathlib.Omega.{arith}
 use Rattle.tlb.proofs.Seen.{Seen, seen-start, seen-end, walk-found, walk-past}
 use Rattle.tlb.proofs.search_starts.Statement.{statement}

@@ -1,5 +1,5 @@
 -- `tlb::walk` meets its contract. The invariant: i slots are passed.
-use Prim.Native.Nat.{ℕ, _+_, _-_, _≤_}
+use Prim.Native.Nat.{_+_, _-_, _≤_}
 use mathlib.Core.Path.{_≡_, refl, sym, _∙_}
 use mathlib.Core.Bool.{false, and-false}
 use mathlib.Core.Logic.{⊎-elim}
