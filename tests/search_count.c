@@ -1,6 +1,6 @@
 /*
- * How many pages a search compares, beside a plain count over a table of entries that is kept here: on many sides, of many lengths. Both
- * are written from the documents. Then plain counts that are wrong on purpose, each of which has to differ somewhere.
+ * How many pages a search compares, beside a plain count over a table of entries that is kept here: on many sides, of many lengths. Table
+ * and count are written from the documents. Then counts that are wrong on purpose, each of which has to differ somewhere.
  */
 #include "lent.h"
 

@@ -1,5 +1,6 @@
 #!/usr/bin/env bash
-# The number of pages that a search compares, beside a plain count. No call of the library has it: crates/search_count is for this alone.
+# The number of pages that a search compares, beside a plain count. No call of the library has it: the archive of crates/search_count is
+# built for this alone.
 set -euo pipefail
 cd "$(dirname "$0")/.."
 source tools/library.bash
