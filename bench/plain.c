@@ -103,7 +103,7 @@ static void translate(struct unit *u, u64 *r, unsigned kind, unsigned selector, 
     if (r[5] && r[3] != 2) address &= 0xFFFFFFFF;
     if (address & ((1u << size) - 1)) { trap(r, side, context, false, 0x34, 0, address, out); return; }
     if (r[3] == 0 && side && selector == 2) { trap(r, side, context, false, 0x37, 0, address, out); return; }
-    if (r[3] == 2) { answer(out, 1, address >> 39 & 1 ? 2 : 1, 0, 0, address & ((1ull << 40) - 1), 0); return; }
+    if (r[3] == 2) { answer(out, 1, address >> 39 & 1 ? 2 : 1, 0, 15, address & ((1ull << 40) - 1), 0); return; }
     if (!in_range(address)) { trap(r, side, context, true, bad, 0x20, address, out); return; }
     bool real = !(r[4] >> side & 1);
     struct slot *s = find(u->sides[side], r[0], real, context, address);
@@ -115,7 +115,7 @@ static void translate(struct unit *u, u64 *r, unsigned kind, unsigned selector, 
     if (fault) { trap(r, side, context, true, bad, fault, address, out); return; }
     if ((kind == 2 || kind == 3) && !(w >> 6 & 1)) { trap(r, side, context, true, 0x6C, 0, address, out); return; }
     u64 frame = rounded(w & 0xFFFFFFE000ull, w);
-    answer(out, 1, w >> 10 & 7, 0, 0, frame + (address - s->page), 0);
+    answer(out, 1, w >> 10 & 7, 0, w & 15, frame + (address - s->page), 0);
 }
 
 static unsigned insert(struct unit *u, u64 *r, unsigned side, unsigned flags, u64 word, uint8_t *out) {

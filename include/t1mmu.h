@@ -35,7 +35,7 @@ extern "C" {
 
 /* ---- sizes ---- */
 
-#define T1MMU_VERSION 0x010101u /* 1.1.1: major * 65536 + minor * 256 + patch */
+#define T1MMU_VERSION 0x010200u /* 1.2.0: major * 65536 + minor * 256 + patch */
 #define T1MMU_STATE_WORDS 640   /* the strands' register cells, then the slots of side 0, then those of side 1 */
 #define T1MMU_ANSWER_BYTES 24
 #define T1MMU_STRANDS 4
@@ -113,18 +113,25 @@ enum t1mmu_mode { T1MMU_USER = 0, T1MMU_PRIVILEGED = 1, T1MMU_HYPERPRIVILEGED = 
 
 enum t1mmu_translation { T1MMU_FETCH_ON = 1, T1MMU_DATA_ON = 2 };
 
-/* Size codes of an entry word and of the TSB configuration. */
+/* Size codes of an entry word, of the TSB configuration and of a physical answer; and the bytes of a page by its code. */
 enum t1mmu_page { T1MMU_8K = 0, T1MMU_64K = 1, T1MMU_4M = 3, T1MMU_256M = 5 };
+#define T1MMU_PAGE_BYTES(code) ((uint64_t)1 << (13 + 3 * (code)))
+
+/* In a physical answer in place of a size code: a bypass, which has no page. */
+#define T1MMU_BYPASS_CODE 15
 
 /*
  * ---- answers: the kind in byte 0; a, b and c in bytes 1 to 3; the first value in 8 to 15 and the second in 16 to 23, big-endian ----
  *
- * What is not named here is 0.
+ * What is not named here is 0, and may gain a meaning in a later minor version, as c of T1MMU_PHYSICAL did in 1.2: bytes 4 to 7 of every
+ * answer; a, b, c and the second value of T1MMU_DONE, and its first where nothing is counted; b and the second value of T1MMU_PHYSICAL; c of
+ * T1MMU_TRAP; a, b and c of T1MMU_VALUE, and its second value of a register; a of T1MMU_DISPLACED; b, c and both values of T1MMU_REFUSED; all
+ * of T1MMU_NOT_IN_TABLE. Read what is named, and ignore the rest (docs/CHANGELOG.md).
  */
 
 enum t1mmu_answer {
     T1MMU_DONE = 0,      /* first value, for 0x03 to 0x05: the count of entries removed */
-    T1MMU_PHYSICAL = 1,  /* a: T1MMU_CP + T1MMU_E + T1MMU_IE of the page; first value: the physical address */
+    T1MMU_PHYSICAL = 1,  /* a: T1MMU_CP + T1MMU_E + T1MMU_IE of the page; c: enum t1mmu_page, or T1MMU_BYPASS_CODE; first value: the physical address */
     T1MMU_TRAP = 2,      /* a: enum t1mmu_trap; b: fault type; first value: the address as it was used; second: tag access as the trap left it */
     T1MMU_VALUE = 3,     /* first value: the register; or both values: the pointers of ps0 and ps1 */
     T1MMU_DISPLACED = 4, /* b: its partition; c: 1 if it is real; first value: its page and context, as in tag access; second: its word */
@@ -133,6 +140,13 @@ enum t1mmu_answer {
 };
 
 enum t1mmu_attribute { T1MMU_CP = 1, T1MMU_E = 2, T1MMU_IE = 4 };
+
+/*
+ * For a cache above the unit: a physical answer with a size code holds for its whole page. Until it is dropped, an access of the same strand,
+ * kind and selector to an aligned address in the T1MMU_PAGE_BYTES(c) around the one asked for would get the same a and c, and the physical
+ * address at its own offset. (specs: Extent) Drop it at any insertion, serve, demap or invalidation on its side, by any strand, and at any
+ * write of registers 0 to 5 of its strand; docs/PAPER.md shows one. Used bits do not see what such a cache answers.
+ */
 
 enum t1mmu_trap {
     T1MMU_INSTRUCTION_ACCESS_EXCEPTION = 0x08,

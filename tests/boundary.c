@@ -106,6 +106,8 @@ static void constants(void)
     expect(sizeof(struct t1mmu_part) == 24 && offsetof(struct t1mmu_part, other) == 1 && offsetof(struct t1mmu_part, start) == 8
                && offsetof(struct t1mmu_part, length) == 16, "layout of a part", 0);
     expect(sizeof(struct t1mmu_answered) == ANSWER, "layout of what a serve answers", 0);
+    expect(T1MMU_PAGE_BYTES(T1MMU_8K) == 1u << 13 && T1MMU_PAGE_BYTES(T1MMU_64K) == 1u << 16 && T1MMU_PAGE_BYTES(T1MMU_4M) == 1u << 22
+               && T1MMU_PAGE_BYTES(T1MMU_256M) == 1u << 28, "bytes of a page", 0);
     expect(T1MMU_TSB_BYTES(0) == 8192 && T1MMU_TSB_BYTES(15) == 268435456, "bytes of a TSB", 0);
 }
 

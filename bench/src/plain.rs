@@ -195,7 +195,7 @@ impl Unit {
         } else if r[3] == 0 && side == 1 && selector == 2 {
             trap(r, &c, false, 0x37, 0, out);
         } else if r[3] == 2 {
-            answer(out, [1, if address >> 39 & 1 == 1 { 2 } else { 1 }, 0, 0], address & ((1 << 40) - 1), 0);
+            answer(out, [1, if address >> 39 & 1 == 1 { 2 } else { 1 }, 0, 15], address & ((1 << 40) - 1), 0);
         } else if !in_range(address) {
             trap(r, &c, true, bad, 0x20, out);
         } else {
@@ -230,7 +230,7 @@ impl Unit {
             return trap(r, &c, true, 0x6C, 0, out);
         }
         let frame = rounded(w & 0xFF_FFFF_E000, w);
-        answer(out, [1, (w >> 10 & 7) as u8, 0, 0], frame + (c.address - s.page), 0);
+        answer(out, [1, (w >> 10 & 7) as u8, 0, (w & 15) as u8], frame + (c.address - s.page), 0);
     }
 
     fn insert(&mut self, b: &[u8], out: Out) -> u8 {

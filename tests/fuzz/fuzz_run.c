@@ -210,13 +210,18 @@ static int known_trap(unsigned n)
     return n == 0x08 || n == 0x30 || n == 0x34 || n == 0x37 || n == 0x3e || n == 0x3f || n == 0x64 || n == 0x68 || n == 0x6c;
 }
 
+static int known_code(unsigned c)
+{
+    return c == T1MMU_8K || c == T1MMU_64K || c == T1MMU_4M || c == T1MMU_256M || c == T1MMU_BYPASS_CODE;
+}
+
 static void judge_answer(unsigned command, const uint8_t *a)
 {
     HOLDS(a[0] <= 5 && a[4] == 0 && a[5] == 0 && a[6] == 0 && a[7] == 0);
     if (a[0] == T1MMU_PHYSICAL)
-        HOLDS(command == T1MMU_ACCESS && a[8] == 0 && a[9] == 0 && a[10] == 0 && a[1] < 8);
+        HOLDS(command == T1MMU_ACCESS && a[8] == 0 && a[9] == 0 && a[10] == 0 && a[1] < 8 && a[2] == 0 && known_code(a[3]));
     if (a[0] == T1MMU_TRAP)
-        HOLDS(command == T1MMU_ACCESS && known_trap(a[1]));
+        HOLDS(command == T1MMU_ACCESS && known_trap(a[1]) && a[3] == 0);
     if (a[0] == T1MMU_VALUE)
         HOLDS(command == T1MMU_READ || command == T1MMU_POINTERS);
     if (a[0] == T1MMU_DISPLACED)

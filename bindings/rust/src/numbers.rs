@@ -11,7 +11,7 @@ macro_rules! numbers {
 
 numbers! {
     /// The version that this crate is written for: major * 65536 + minor * 256 + patch.
-    VERSION: u32 = 0x01_01_01;
+    VERSION: u32 = 0x01_02_00;
     /// The words of a state.
     STATE_WORDS: usize = 640;
     /// The bytes of an answer.
@@ -107,11 +107,13 @@ numbers! {
     FETCH_ON: u64 = 1;
     DATA_ON: u64 = 2;
 
-    // Size codes of an entry word and of the TSB configuration; a Rust name has no digit in front.
+    // Size codes of an entry word, of the TSB configuration and of a physical answer, its fourth byte; a Rust name has no digit in front.
     PAGE_8K: u64 = 0;
     PAGE_64K: u64 = 1;
     PAGE_4M: u64 = 3;
     PAGE_256M: u64 = 5;
+    /// In a physical answer in place of a size code: a bypass, which has no page.
+    BYPASS_CODE: u64 = 15;
 
     // Kinds of answer, their first byte.
     DONE: u8 = 0;
@@ -188,6 +190,14 @@ pub const fn tsb_configuration_of(side: u8, nonzero: bool) -> u8 {
 /// The bytes of a TSB whose base register has N, 0 to 15.
 pub const fn tsb_bytes(n: u32) -> usize {
     TSB_ENTRY_BYTES << (9 + n)
+}
+
+/// The bytes of a page by its size code; none where it has no page, as [`BYPASS_CODE`].
+pub const fn page_bytes(code: u64) -> Option<u64> {
+    match code {
+        PAGE_8K | PAGE_64K | PAGE_4M | PAGE_256M => Some(1 << (13 + 3 * code)),
+        _ => None,
+    }
 }
 
 /// Where in a state a strand's register stands.

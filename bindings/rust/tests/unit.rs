@@ -1,5 +1,5 @@
 //! The crate's own tests. What is expected is the documents', not the library's.
-use t1mmu::numbers::{self, cell_at, slot_at, tsb_base_of, tsb_bytes, tsb_configuration_of};
+use t1mmu::numbers::{self, cell_at, page_bytes, slot_at, tsb_base_of, tsb_bytes, tsb_configuration_of};
 use t1mmu::{pack, state_words, unpack, version, NoPart, Report, Stop, Tte, Unit, ANSWER_BYTES, STATE_WORDS, VERSION};
 
 /// Document 01's printed run.
@@ -176,6 +176,33 @@ fn no_part_and_why() {
         assert_eq!(unit.serve(strand, side, used, &zero)[..], refused(number));
         assert!(unit == before, "{why:?}");
     }
+}
+
+/// A page of a size code that stands at its own size, on the data side: what a load of its last 8 bytes is answered in a mode.
+fn last_load(code: u64, mode: u64) -> Vec<u8> {
+    let page = page_bytes(code).expect("a page");
+    let write = |register: u8, value: u64| [&[numbers::WRITE, 0, register][..], &value.to_be_bytes()].concat();
+    let commands = [
+        write(numbers::TRANSLATION, numbers::DATA_ON),
+        write(numbers::TAG_ACCESS + numbers::DATA, page),
+        [&[numbers::INSERT, 0, numbers::DATA, 0][..], &(1 << 63 | page | code).to_be_bytes()].concat(),
+        write(numbers::MODE, mode),
+        [&[numbers::ACCESS, 0, numbers::LOAD, numbers::PRIMARY, 3][..], &(2 * page - 8).to_be_bytes()].concat(),
+    ];
+    let mut output = [0; 5 * ANSWER_BYTES];
+    assert_eq!(Unit::reset().run(&commands.concat(), &mut output).answered, 5);
+    output[4 * ANSWER_BYTES..].to_vec()
+}
+
+#[test]
+fn a_physical_answer_tells_its_page() {
+    for code in [numbers::PAGE_8K, numbers::PAGE_64K, numbers::PAGE_4M, numbers::PAGE_256M] {
+        let last = 2 * page_bytes(code).expect("a page") - 8;
+        let answer = |a: u8, c: u64| [&[numbers::PHYSICAL, a, 0, c as u8, 0, 0, 0, 0][..], &last.to_be_bytes(), &[0; 8]].concat();
+        assert_eq!(last_load(code, numbers::PRIVILEGED), answer(0, code));
+        assert_eq!(last_load(code, numbers::HYPERPRIVILEGED), answer(numbers::CP, numbers::BYPASS_CODE));
+    }
+    assert_eq!(page_bytes(numbers::BYPASS_CODE), None);
 }
 
 #[test]

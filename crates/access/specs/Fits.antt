@@ -15,7 +15,7 @@ use Rattle.machine.specs.declared.Tag.the-variants.{Kept, Written}
 use Rattle.machine.specs.declared.Prepared.{Prepared}
 use Rattle.machine.specs.declared.Prepared.the-variants.{Stopped, Bypass, Lookup}
 use Rattle.machine.specs.declared.Judged.{Judged}
-use Rattle.machine.specs.declared.Judged.the-variants.{Faulted, Translated}
+use Rattle.machine.specs.declared.Judged.the-variants.{Faulted, Permitted}
 
 -- an access of a strand and a side that there are
 pub record AccessFits (a : Access) : Type 0 where
@@ -42,4 +42,4 @@ PreparedFits (Lookup key) = KeyFits key
 -- the traps that steps 6 and 7 take
 abbrev pub JudgedFits : Judged → Type 0
 JudgedFits (Faulted t) = FaultFits t
-JudgedFits (Translated p) = Unit {0}
+JudgedFits Permitted = Unit {0}

@@ -1,17 +1,18 @@
-// One access: document 01, "Access". Prepare (steps 1 to 4), lookup (5), judge (6 to 8), settle (used bit and registers).
+// One access: document 01, "Access". Prepare (steps 1 to 4), lookup (5), judge (6 and 7), translate (8), settle (used bit and registers).
 ghost use mathlib.Core.Path.{_≡_};
-ghost use mathlib.Core.Bool.{not, cond, _&&_, _||_};
+ghost use mathlib.Core.Bool.{true, not, cond, _&&_, _||_};
 ghost use Prim.Native.Nat.{_+_, _%_, _^_, _<_, _≤_};
 ghost use lib.Dec.{eqb};
-ghost use Rattle.laws.specs.declared.Found.the-variants.{At, Nothing};
+ghost use lib.ListN.{getD};
+ghost use Rattle.laws.specs.declared.Found.the-variants.{At};
 ghost use Rattle.machine.specs.Words.{bits};
-ghost use Rattle.machine.specs.Slots.{KeyFits};
+ghost use Rattle.machine.specs.Slots.{noSlot, KeyFits, keyAddress, holds, miss, lookedAt};
 ghost use Rattle.machine.specs.Registers.{withRegister, translates};
-ghost use Rattle.machine.specs.State.{stateIn, encode, withRegisters};
+ghost use Rattle.machine.specs.State.{stateIn, encode, sideOf, withRegisters};
 ghost use Rattle.state.specs.Calls.{Lent, SoundIn, Did};
 ghost use Rattle.machine.specs.Access.{addressUsed, accessOf, exception, trapTag, bypassTo, lookupKey, prepare};
-ghost use Rattle.machine.specs.Access.{missTrap, faultType, judge, trapFault, trapRegisters, trapTo, settleFound};
-ghost use Rattle.machine.specs.Access.{settle, accessTo};
+ghost use Rattle.machine.specs.Access.{missTrap, faultType, judge, translatedBy, trapFault, trapRegisters, trapTo};
+ghost use Rattle.machine.specs.Access.{settleLooked, settle, accessTo};
 ghost use Rattle.machine.specs.declared.Prepared.the-variants.{Lookup};
 ghost use Rattle.machine.specs.declared.Tag.the-variants.{Kept};
 ghost use Rattle.access.specs.Faults.{faultless};
@@ -22,6 +23,7 @@ use machine::Answer;
 use machine::Judged;
 use machine::Key;
 use machine::Prepared;
+use machine::Reach;
 use machine::Tag;
 use machine::Translation;
 use machine::Trap;
@@ -110,6 +112,7 @@ fn bypass_translation(used: VirtualAddress) -> Translation
     Translation {
         address: pages::bypass(used),
         attributes: 1 + bit_of(used.0, 39),
+        code: machine::BYPASS_CODE,
     }
 }
 
@@ -225,7 +228,7 @@ fn is_write_denied(kind: u8, word: u64) -> bool
     }
 }
 
-// Steps 6 to 8.
+// Steps 6 and 7.
 fn judge_word(state: &[u64], a: Access, word: u64) -> Judged
     requires { ⌜ Lent (now state) × AccessFits a ⌝ }
     ensures judged { λ r. ⌜ r ≡ judge (stateIn (now (state .entry)) .registers) a word ⌝ }
@@ -242,11 +245,19 @@ fn judge_word(state: &[u64], a: Access, word: u64) -> Judged
     if is_write_denied(a.kind, word) {
         return Judged::Faulted(Trap::DataProtection);
     }
-    let used = a.used;
-    Judged::Translated(Translation {
-        address: tte::physical_address(word, used),
+    Judged::Permitted
+}
+
+// Step 8: the physical address and the size code, both by the one match.
+fn translated_by(word: u64, reach: Reach) -> Translation
+    requires { ⌜ reach .offset < 2 ^ 28 ⌝ }
+    ensures { λ r. ⌜ r ≡ translatedBy word reach ⌝ }
+{
+    Translation {
+        address: tte::physical_address(word, reach),
         attributes: bit_of(word, 10) + 2 * bit_of(word, 11) + 4 * bit_of(word, 12),
-    })
+        code: reach.code,
+    }
 }
 
 // Writes a register that each side has: the base is its number on side 0.
@@ -316,22 +327,27 @@ fn take_tagged(state: &mut [u64], a: Access, trap: Trap) -> Answer
 // A miss traps and sets no used bit.
 fn settle_miss(state: &mut [u64], a: Access) -> Answer
     requires { ⌜ Lent (now state) × AccessFits a × RegistersFit (now state) ⌝ }
-    ensures { λ r. ⌜ Did (now (state .exit)) r (settleFound (stateIn (now (state .entry))) a Nothing) ⌝ }
+    ensures { λ r. ⌜ Did (now (state .exit)) r (settleLooked (stateIn (now (state .entry))) a miss) ⌝ }
 {
     let trap = miss_of(state, a);
     take_tagged(state, a, trap)
 }
 
-// A hit has its used bit set, and is judged.
-fn settle_hit(state: &mut [u64], a: Access, i: usize) -> Answer
-    requires { ⌜ Lent (now state) × AccessFits a × (i < 64) × RegistersFit (now state) ⌝ }
-    ensures { λ r. ⌜ Did (now (state .exit)) r (settleFound (stateIn (now (state .entry))) a (At i)) ⌝ }
+// A hit in slot i has its used bit set, and is judged. Its page holds the key's address.
+fn settle_hit(state: &mut [u64], a: Access, key: Key, i: usize) -> Answer
+    requires { ⌜ Lent (now state) × AccessFits a × (i < 64) × RegistersFit (now state)
+        × (holds (getD (sideOf (stateIn (now state)) (a .side)) i noSlot) (keyAddress key) ≡ true) ⌝ }
+    ensures { λ r. ⌜ Did (now (state .exit)) r (settleLooked (stateIn (now (state .entry))) a
+        (lookedAt key (sideOf (stateIn (now (state .entry))) (a .side)) (At i))) ⌝ }
 {
-    let judged = judge_word(state, a, state::slot_of(state, a.side, i).word);
+    let x = state::slot_of(state, a.side, i);
+    let reach = tlb::reach_of(x, tlb::key_address(key));
+    let word = x.word;
+    let judged = judge_word(state, a, word);
     state::mark_used(state, a.side, i);
     match judged {
         Judged::Faulted(trap) => take_tagged(state, a, trap),
-        Judged::Translated(translation) => Answer::Physical(translation),
+        Judged::Permitted => Answer::Physical(translated_by(word, reach)),
     }
 }
 
@@ -342,7 +358,7 @@ fn look_up(state: &mut [u64], hints: &mut [u8; 256], a: Access, key: Key) -> Ans
 {
     let found = state::search_hinted(state, hints, a.side, key);
     match found {
-        Found::At(i) => settle_hit(state, a, i),
+        Found::At(i) => settle_hit(state, a, key, i),
         Found::Nothing => settle_miss(state, a),
     }
 }

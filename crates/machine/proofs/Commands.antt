@@ -8,22 +8,20 @@ use lib.Dec.{eqb, ltb, leb}
 use lib.ListN.{length, getD}
 use borrow.Author.Tests.{eqb-true, eq-eqb, ltb-true, not-true}
 use mathlib.Core.Option.{Option, none, some}
-use Rattle.laws.specs.Tests.{tick, count, anyOf, allOf, first}
+use Rattle.laws.specs.Tests.{tick, count, anyOf, allOf}
 use Rattle.laws.specs.Passing.{howMany, nonePasses, find}
-use Rattle.laws.specs.declared.Found.{Found}
-use Rattle.laws.specs.declared.Found.the-variants.{At, Nothing}
 use Rattle.laws.proofs.Bools.{by-test, clash, and-left, and-right, and-both, or-other}
 use Rattle.laws.proofs.Counts.{none-count}
 use Rattle.laws.proofs.Walks.{found-none}
 use Rattle.laws.proofs.Finds.{stands-count, how-many, none-passes, FindSays, find-says, find-only, find-zero}
-use Rattle.machine.specs.Slots.{noSlot, isLive, answersTo, isReal, setUsed}
+use Rattle.machine.specs.Slots.{noSlot, isLive, answersTo, lookup, isReal, setUsed}
 use Rattle.machine.specs.Pages.{inRange}
 use Rattle.machine.specs.Words.{wordSound}
 use Rattle.machine.specs.Insertion.{removes, candidate, placed, inserted, hasSlot}
 use Rattle.machine.specs.Sound.{slotSound}
 use Rattle.machine.specs.Registers.{partition, selected}
 use Rattle.machine.specs.Questions.{kindSide, flagReal, keyOf, asked, verdict}
-use Rattle.machine.specs.Access.{lookupKey, prepare, settleFound, accessTo}
+use Rattle.machine.specs.Access.{lookupKey, prepare, settleLooked, accessTo}
 use Rattle.machine.specs.declared.VirtualAddress.{VirtualAddress}
 use Rattle.machine.specs.State.{Counts, slotCount, State, sideOf, withSide}
 use Rattle.machine.specs.Step.{placedAnswer, demap, act}
@@ -37,6 +35,7 @@ use Rattle.machine.specs.Demand3.{InsertionSays, AccessSays}
 use Rattle.machine.specs.Frame.{entryIn}
 use Rattle.machine.specs.Views.{view}
 use Rattle.machine.specs.declared.Slot.{Slot}
+use Rattle.machine.specs.declared.Access.{Access}
 use Rattle.machine.specs.declared.Removal.{Removal}
 use Rattle.machine.specs.declared.Removal.the-variants as removal
 use Rattle.machine.specs.declared.Placed.{Placed}
@@ -48,11 +47,12 @@ use Rattle.machine.specs.declared.Command.{Command}
 use Rattle.machine.specs.declared.Command.the-variants as command
 use Rattle.machine.specs.declared.Answer.the-variants as answer
 use Rattle.machine.specs.declared.Verdict.the-variants.{Passed}
-use Rattle.machine.proofs.State.{strand-sound, kind-side, passed-asked}
+use Rattle.machine.proofs.Matches.{looked-by}
+use Rattle.machine.proofs.State.{strand-sound, kind-side, passed-asked, key-address}
 use Rattle.machine.proofs.Questions.{context-picked, write-bytes, write-alike, read-bytes, pointers-bytes}
 use Rattle.machine.proofs.Looks.{StepAlike, accessFor, Early, looks, ends, prepare-alike, key-alike, key-small}
 use Rattle.machine.proofs.Looks.{miss-alike, hit-alike, miss-not-hit, access-alike, fit-none, used-alike}
-use Rattle.machine.proofs.Used.{SameSlots, found-slots}
+use Rattle.machine.proofs.Used.{SameSlots, hit-slots}
 use Rattle.machine.proofs.Bytes.{line-answer, name-back, line-kind}
 use Rattle.machine.proofs.Alike.{SideAlike, Alike, placeIn, PlacesAlike, ReferenceAlike}
 use Rattle.machine.proofs.Places.{displaced-way, emptied-side, used-side, unused-side, places-each, places-same}
@@ -265,32 +265,37 @@ module _ {n : Counts} {u : State} {l : Ledger} (h : Alike n u l) where
   demap-does side which p b t = record { bytes = sym (demap-bytes h side b which p t); alike = demap-alike h side b which p t }
 
   -- ---- the lookup itself
-  looked : (a : Asked) → SideAlike (slotCount n (kindSide (a .kind))) (sideOf u (kindSide (a .kind))) (l .entries (kindSide (a .kind)))
+  pub looked : (a : Asked) → SideAlike (slotCount n (kindSide (a .kind))) (sideOf u (kindSide (a .kind))) (l .entries (kindSide (a .kind)))
   looked a = alike-side (kindSide (a .kind)) (kind-side (a .kind)) h
 
-  key-same : (a : Asked) (s : a .strand < 4) (c : a .selector < 3)
+  pub key-same : (a : Asked) (s : a .strand < 4) (c : a .selector < 3)
       → SameTest (answersTo (keyOf (not (translationOn l a)) (l .registers (a .strand) 0) (contextPicked l (a .strand) (a .selector))
       (record { 0 = a .used }))) (foundBy l a)
   key-same a s c = key-test _ (not (translationOn l a)) _ (record { 0 = a .used })
 
-  looked-one : (a : Asked) (s : a .strand < 4) (c : a .selector < 3) → count (foundBy l a) (l .entries (kindSide (a .kind))) ≤ 1
+  pub looked-one : (a : Asked) (s : a .strand < 4) (c : a .selector < 3) → count (foundBy l a) (l .entries (kindSide (a .kind))) ≤ 1
   looked-one a s c = alike-one (looked a) _ (not (translationOn l a)) _ (record { 0 = a .used }) (key-small h a s c .0) (key-small h a s c .1)
 
-  found-alike : (a : Asked) (s : a .strand < 4) (c : a .selector < 3) (f : Found)
-      → first (answersTo (lookupKey (u .registers) (accessFor (u .registers) a))) (sideOf u (kindSide (a .kind))) ≡ f
-      → StepAlike n (settleFound u (accessFor (u .registers) a) f) (lookedUp l a (find (foundBy l a) (l .entries (kindSide (a .kind)))))
-  found-alike a s c Nothing e = rw (alike-nothing (looked a) (key-same a s c) (rw (key-alike h a s c) at e)) (miss-alike h a s c)
-  found-alike a s c (At i) e =
-      let f = alike-found (looked a) (key-same a s c) i (looked-one a s c) (rw (key-alike h a s c) at e) in
-      let k = kindSide (a .kind) in
-      let x = getD (sideOf u k) i noSlot in
-      let marked = alike-marked k (kind-side (a .kind)) h (alike-used (looked a) i (f .0)) in
-      let good : wordSound (x .word) ≡ true = live-parts x (sound-slot (sideOf u k) i (looked a .sound)) (f .0) .word in
-      rw (f .1) (hit-alike marked a s c (entryIn x) refl good)
+  found-alike : (a : Asked) → a .strand < 4 → a .selector < 3 →
+      let b : Access = accessFor (u .registers) a in
+      let side : ℕ = kindSide (a .kind) in
+      StepAlike n (settleLooked u b (lookup (lookupKey (u .registers) b) (sideOf u side))) (lookedUp l a (find (foundBy l a) (l .entries side)))
+  found-alike a s c =
+      let side : ℕ = kindSide (a .kind) in
+      let b : Access = accessFor (u .registers) a in
+      let w : Written = lookedUp l a (find (foundBy l a) (l .entries side)) in
+      rw (key-alike h a s c) (looked-by _ (sideOf u side) (λ f. StepAlike n (settleLooked u b f) w)
+      (λ e. rw (alike-nothing (looked a) (key-same a s c) e) (miss-alike h a s c))
+      (λ i e.
+      let f = alike-found (looked a) (key-same a s c) i (looked-one a s c) e in
+      let x = getD (sideOf u side) i noSlot in
+      let marked = alike-marked side (kind-side (a .kind)) h (alike-used (looked a) i (f .0)) in
+      let good : wordSound (x .word) ≡ true = live-parts x (sound-slot (sideOf u side) i (looked a .sound)) (f .0) .word in
+      rw (f .1, key-address _ _ _ _) (hit-alike marked a s c (entryIn x) refl good)))
 
   access-does : (a : Asked) → a .strand < 4 → a .selector < 3 → StepAlike n (accessTo u (accessFor (u .registers) a)) (accesses l a)
   unfolding accesses
-  access-does a s c = access-alike h a s c _ (found-alike a s c _ refl)
+  access-does a s c = access-alike h a s c _ (found-alike a s c)
 
   pub access-told : (a : Asked) → a .strand < 4 → a .selector < 3 → looksUp l a ≡ true
       → AccessSays l a (answerBytes (accessTo u (accessFor (u .registers) a) .answer))
@@ -337,29 +342,31 @@ module _ {n : Counts} {u : State} {k : Reference} (h : ReferenceAlike n u k) whe
       → PlacesAlike (demap u side which .state) (each k side (emptiedWhere p))
   demap-places side which p b t = places-each (h .places) side b _ (emptiedWhere p) (emptied-side t (sideOf u side) (alike-side side b (h .ledger) .sound))
 
-  found-places : (a : Asked) (s : a .strand < 4) (c : a .selector < 3) (f : Found)
-      → first (answersTo (lookupKey (u .registers) (accessFor (u .registers) a))) (sideOf u (kindSide (a .kind))) ≡ f
-      → PlacesAlike (settleFound u (accessFor (u .registers) a) f .state) (each k (kindSide (a .kind)) (usedWhere (foundBy l a)))
-  found-places a s c Nothing e =
+  found-places : (a : Asked) → a .strand < 4 → a .selector < 3 →
+      let b : Access = accessFor (u .registers) a in
       let side : ℕ = kindSide (a .kind) in
+      PlacesAlike (settleLooked u b (lookup (lookupKey (u .registers) b) (sideOf u side)) .state) (each k side (usedWhere (foundBy l a)))
+  found-places a s c =
+      let side : ℕ = kindSide (a .kind) in
+      let b : Access = accessFor (u .registers) a in
       let t = key-same (h .ledger) a s c in
-      let none-found = none-count _ (sideOf u side) (found-none noSlot _ (sideOf u side) (rw (key-alike (h .ledger) a s c) at e)) in
+      let ps = each k side (usedWhere (foundBy l a)) in
+      rw (key-alike (h .ledger) a s c) (looked-by _ (sideOf u side) (λ f. PlacesAlike (settleLooked u b f .state) ps)
+      (λ e.
+      let none-found = none-count _ (sideOf u side) (found-none noSlot _ (sideOf u side) e) in
       places-same _ (places-each (h .places) side (kind-side (a .kind)) (sideOf u side) (usedWhere (foundBy l a))
-      (unused-side t (sideOf u side) (looked (h .ledger) a .sound) none-found)) (same-side u side)
-  found-places a s c (At i) e =
-      let side : ℕ = kindSide (a .kind) in
-      let t = key-same (h .ledger) a s c in
+      (unused-side t (sideOf u side) (looked (h .ledger) a .sound) none-found)) (same-side u side))
+      (λ i e.
       places-same _ (places-each (h .places) side (kind-side (a .kind)) (setUsed i (sideOf u side)) (usedWhere (foundBy l a))
       (used-side t (sideOf u side) i (looked (h .ledger) a .sound)
-      (omega (arith, alike-count (looked (h .ledger) a) t, looked-one (h .ledger) a s c)) (rw (key-alike (h .ledger) a s c) at e))) (found-slots u
-      (accessFor (u .registers) a) i)
+      (omega (arith, alike-count (looked (h .ledger) a) t, looked-one (h .ledger) a s c)) e)) (hit-slots u b i _)))
 
   access-places : (a : Asked) → a .strand < 4 → a .selector < 3 → PlacesAlike (accessTo u (accessFor (u .registers) a) .state) (accessed k a)
   access-places a s c = go (prepare-alike (h .ledger) a s c)
     where
       go : Early n u (accessFor (u .registers) a) (prepare (u .registers) (accessFor (u .registers) a)) (earlySteps l a)
           → PlacesAlike (accessTo u (accessFor (u .registers) a) .state) (accessed k a)
-      go (looks p past) = rw (p, none-passes (λ q. q .0) (earlySteps l a), past) (found-places a s c _ refl)
+      go (looks p past) = rw (p, none-passes (λ q. q .0) (earlySteps l a), past) (found-places a s c)
       go (ends any z f) = rw (none-passes (λ q. q .0) (earlySteps l a), any) (places-same _ (h .places) z)
 
   pub does-places : (c : Command) → verdict u c ≡ Passed → Plain (view c) → PlacesAlike (act u c .state) (moved (slotCount n) k c)

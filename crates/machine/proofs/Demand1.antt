@@ -7,15 +7,13 @@ use native.Mathlib.Omega.{arith}
 use lib.Dec.{eqb}
 use lib.ListN.{getD}
 use borrow.Author.Tests.{ne-eqb}
-use Rattle.laws.specs.Tests.{allOf, first}
-use Rattle.laws.specs.declared.Found.{Found}
-use Rattle.laws.specs.declared.Found.the-variants.{At, Nothing}
+use Rattle.laws.specs.Tests.{allOf}
 use Rattle.laws.proofs.Bools.{by-test, clash, and-left, and-right}
-use Rattle.machine.specs.Slots.{noSlot, answersTo}
+use Rattle.machine.specs.Slots.{noSlot, Looked, hit, miss, lookup}
 use Rattle.machine.specs.Insertion.{candidate, placed}
 use Rattle.machine.specs.State.{Counts, slotCount, State, sideOf, stateOf, encode, wordsSound}
 use Rattle.machine.specs.Questions.{insertion, askedInsertion, asked, ask, verdict}
-use Rattle.machine.specs.Access.{Stepped, prepare, judge, settleJudged, settleFound, settle}
+use Rattle.machine.specs.Access.{Stepped, prepare, judge, translatedBy, settleJudged, settleLooked, settle}
 use Rattle.machine.specs.Step.{placedAnswer, act, stepBy, step, insertStep}
 use Rattle.machine.specs.Stream.{Bytes, answerBytes}
 use Rattle.machine.specs.Serve.{servedOf}
@@ -25,6 +23,7 @@ use Rattle.machine.specs.Demand3.{unitBytes}
 use Rattle.machine.specs.Good.{ReferenceGood}
 use Rattle.machine.specs.Demand1.{Demand1}
 use Rattle.machine.specs.declared.Access.{Access}
+use Rattle.machine.specs.declared.Translation.{Translation}
 use Rattle.machine.specs.declared.Prepared.{Prepared}
 use Rattle.machine.specs.declared.Prepared.the-variants as prepared
 use Rattle.machine.specs.declared.Judged.{Judged}
@@ -46,21 +45,23 @@ use Rattle.machine.proofs.Misses.{MissAlike, refuses, lacks, inserts, m
 ruleset conj = (and-left, and-right)
 
 -- ---- a command that was not refused does not say so
-judged-kind : (u : State) (a : Access) (j : Judged) → 5 ≤ getD (answerBytes (settleJudged u a j .answer)) 0 0 → ⊥
+judged-kind : (u : State) (a : Access) (p : Translation) (j : Judged) → 5 ≤ getD (answerBytes (settleJudged u a p j .answer)) 0 0 → ⊥
 unfolding answerBytes
-judged-kind u a (judged.Faulted t) h = omega arith
-judged-kind u a (judged.Translated p) h = omega arith
+judged-kind u a p (judged.Faulted t) h = omega arith
+judged-kind u a p judged.Permitted h = omega arith
 
-found-kind : (u : State) (a : Access) (f : Found) → 5 ≤ getD (answerBytes (settleFound u a f .answer)) 0 0 → ⊥
+looked-kind : (u : State) (a : Access) (f : Looked) → 5 ≤ getD (answerBytes (settleLooked u a f .answer)) 0 0 → ⊥
 unfolding answerBytes
-found-kind u a Nothing h = omega arith
-found-kind u a (At i) h = judged-kind _ a (judge (u .registers) a (getD (sideOf u (a .side)) i noSlot .word)) h
+looked-kind u a miss h = omega arith
+looked-kind u a (hit i r) h =
+    let word : ℕ = getD (sideOf u (a .side)) i noSlot .word in
+    judged-kind _ a (translatedBy word r) (judge (u .registers) a word) h
 
 settled-kind : (u : State) (a : Access) (p : Prepared) → 5 ≤ getD (answerBytes (settle u a p .answer)) 0 0 → ⊥
 unfolding answerBytes
 settled-kind u a (prepared.Stopped t tag) h = omega arith
 settled-kind u a (prepared.Bypass p) h = omega arith
-settled-kind u a (prepared.Lookup key) h = found-kind u a (first (answersTo key) (sideOf u (a .side))) h
+settled-kind u a (prepared.Lookup key) h = looked-kind u a (lookup key (sideOf u (a .side))) h
 
 placed-kind : (r : Placed) → not (isRefused r) ≡ true → 5 ≤ getD (answerBytes (placedAnswer r)) 0 0 → ⊥
 unfolding answerBytes

@@ -1,7 +1,7 @@
 -- The fields of an entry word and the bound of physical addresses are as document 01 has them. Assumes nothing.
 use Prim.Native.Nat.{ℕ, _+_, _-_, _/_, _%_, _^_, _<_}
 use mathlib.Core.Path.{_≡_, refl, ap, _∙_}
-use mathlib.Core.Bool.{Bool, true, false, not, _&&_, _||_}
+use mathlib.Core.Bool.{Bool, true, false, not, _&&_}
 use mathlib.Core.List.{List}
 use native.Mathlib.Omega.{arith}
 use native.Mathlib.Nat.{mod-lt, div-eq-of-lt, lt-of-lt-of-le}
@@ -9,19 +9,16 @@ use lib.Dec.{eqb, ltb}
 use lib.Pow.{pow-pos, pow-mono, field, shr-shr, mod-pow-add}
 use lib.ListN.{getD}
 use borrow.Author.Tests.{ltb-true, ltb-false, lt-ltb}
-use Rattle.laws.specs.Tests.{first}
-use Rattle.laws.specs.declared.Found.{Found}
-use Rattle.laws.specs.declared.Found.the-variants.{At, Nothing}
 use Rattle.laws.proofs.Bools.{by-test, clash}
 use Rattle.laws.proofs.Walks.{found-at}
 use Rattle.machine.specs.Pages.{inRange}
-use Rattle.machine.specs.Words.{bits, unpacked, packed, fields, wordSound, physicalAt}
-use Rattle.machine.specs.Slots.{noSlot, isLive, answersTo}
+use Rattle.machine.specs.Words.{bits, unpacked, packed, fields, reachOf}
+use Rattle.machine.specs.Slots.{noSlot, isLive, keyAddress, answersTo, lookup}
 use Rattle.machine.specs.Insertion.{candidate, placed}
 use Rattle.machine.specs.Registers.{mode}
 use Rattle.machine.specs.State.{Counts, State, sideOf, sound}
 use Rattle.machine.specs.Questions.{insertion, verdict}
-use Rattle.machine.specs.Access.{bypassTo, prepare, faultType, attributesOf, judge, settleJudged, settleFound, settle}
+use Rattle.machine.specs.Access.{bypassTo, prepare, judge, translatedBy, settleJudged, settleLooked, settle}
 use Rattle.machine.specs.Step.{placedAnswer, act, stepBy, step}
 use Rattle.machine.specs.Demand2.{IsBits, HasBits, Fields, Demand2}
 use Rattle.machine.specs.declared.Tte.{Tte}
@@ -44,6 +41,7 @@ use Rattle.machine.specs.declared.Verdict.the-variants.{Passed, Refused}
 use Rattle.machine.specs.declared.Answer.{Answer}
 use Rattle.machine.specs.declared.Answer.the-variants as answer
 use Rattle.machine.proofs.Sound.{live-parts, answers-live, sound-slot}
+use Rattle.machine.proofs.Matches.{looked-by}
 use Rattle.machine.proofs.State.{sound-side}
 use Rattle.machine.proofs.Words.{pack-unpack, physical-below}
 
@@ -88,18 +86,6 @@ bypass-below file a t h =
     looked : {key : Key} → prepared.Lookup key ≡ prepared.Bypass t → t .address .0 < 2 ^ 40
     looked z = absurd (let w : _≡_ {A = ℕ} 0 1 = cc in omega arith)
 
-hit-below : (file : List ℕ) (a : Access) (word : ℕ) (t : Translation) → wordSound word ≡ true → judge file a word ≡ judged.Translated t → t .address .0 < 2 ^ 40
-unfolding judge
-hit-below file a word t w h =
-    by-test (not (eqb (faultType (mode file (a .strand)) (a .kind) word) 0)) (λ e. other (rw e at h)) (λ e.
-    by-test ((eqb (a .kind) 2 || eqb (a .kind) 3) && eqb (bits 6 1 word) 0) (λ f. other (rw (e, f) at h)) (λ f.
-    let same : judged.Translated (record { address = physicalAt word (a .used); attributes = attributesOf word }) ≡ judged.Translated t = rw (e, f) at h in
-    let is : _≡_ {A = Translation} (record { address = physicalAt word (a .used); attributes = attributesOf word }) t = cc in
-    rw (← is) (physical-below word w (a .used))))
-  where
-    other : {s : Trap} → judged.Faulted s ≡ judged.Translated t → t .address .0 < 2 ^ 40
-    other z = absurd (let w : _≡_ {A = ℕ} 0 1 = cc in omega arith)
-
 abbrev isPhysical : Answer → Bool
 isPhysical (answer.Done k) = false
 isPhysical (answer.Physical t) = true
@@ -114,25 +100,27 @@ no-address : {C : Type 0} {x : Answer} {t : Translation} → isPhysical x ≡ fa
 no-address f e = clash (ap isPhysical e) f
 
 module _ (n : Counts) (u : State) (h : sound n u ≡ true) (a : Access) (t : Translation) where
-  judged-below : (v : State) (j : Judged) → (j ≡ judged.Translated t → t .address .0 < 2 ^ 40)
-      → settleJudged v a j .answer ≡ answer.Physical t → t .address .0 < 2 ^ 40
-  judged-below v (judged.Faulted s) k e = no-address refl e
-  judged-below v (judged.Translated p) k e = k (let is : p ≡ t = cc in ap judged.Translated is)
+  judged-below : (v : State) (p : Translation) (j : Judged) → p .address .0 < 2 ^ 40
+      → settleJudged v a p j .answer ≡ answer.Physical t → t .address .0 < 2 ^ 40
+  judged-below v p (judged.Faulted s) b e = no-address refl e
+  judged-below v p judged.Permitted b e = let is : p ≡ t = cc in rw (← is) b
 
-  found-below : (key : Key) (f : Found) → first (answersTo key) (sideOf u (a .side)) ≡ f
-      → settleFound u a f .answer ≡ answer.Physical t → t .address .0 < 2 ^ 40
-  found-below key Nothing g e = no-address refl e
-  found-below key (At i) g e =
+  looked-below : (key : Key) → settleLooked u a (lookup key (sideOf u (a .side))) .answer ≡ answer.Physical t → t .address .0 < 2 ^ 40
+  looked-below key =
       let s : List Slot = sideOf u (a .side) in
+      looked-by key s (λ f. settleLooked u a f .answer ≡ answer.Physical t → t .address .0 < 2 ^ 40)
+      (λ g e. no-address refl e)
+      (λ i g e.
       let x : Slot = getD s i noSlot in
       let live : isLive x ≡ true = answers-live key x (found-at noSlot (answersTo key) s i g .1) in
       let word = live-parts x (sound-slot s i (sound-side n u h (a .side) .1)) live .word in
-      judged-below _ (judge (u .registers) a (x .word)) (hit-below (u .registers) a (x .word) t word) e
+      let p : Translation = translatedBy (x .word) (reachOf (x .word) (keyAddress key)) in
+      judged-below _ p (judge (u .registers) a (x .word)) (physical-below (x .word) word (record { 0 = keyAddress key })) e)
 
   settled-below : (p : Prepared) → prepare (u .registers) a ≡ p → settle u a p .answer ≡ answer.Physical t → t .address .0 < 2 ^ 40
   settled-below (prepared.Stopped s tag) g e = no-address refl e
   settled-below (prepared.Bypass p) g e = bypass-below (u .registers) a t (g ∙ (let is : p ≡ t = cc in ap prepared.Bypass is))
-  settled-below (prepared.Lookup key) g e = found-below key _ refl e
+  settled-below (prepared.Lookup key) g e = looked-below key e
 
 placed-below : (r : Placed) (t : Translation) → placedAnswer r ≡ answer.Physical t → t .address .0 < 2 ^ 40
 placed-below placement.Done t e = no-address refl e

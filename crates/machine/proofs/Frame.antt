@@ -11,22 +11,21 @@ use native.Mathlib.Nat.{mod-eq-of-lt}
 use lib.Dec.{eqb, ltb}
 use lib.ListN.{length, getD, List·getD-eq-default}
 use borrow.Author.Tests.{eqb-true, ltb-true, ltb-false, not-true}
-use Rattle.laws.specs.Tests.{tick, count, anyOf, allOf, first}
-use Rattle.laws.specs.declared.Found.{Found}
-use Rattle.laws.specs.declared.Found.the-variants.{At, Nothing}
+use Rattle.laws.specs.Tests.{tick, count, anyOf, allOf}
 use Rattle.laws.proofs.Bools.{by-test, clash, and-both, and-left, and-right}
 use Rattle.laws.proofs.Counts.{count-at, none-count}
 use Rattle.laws.proofs.Finds.{count-index}
 use Rattle.machine.specs.Words.{wordInsertable}
-use Rattle.machine.specs.Slots.{noSlot, isLive, partitionOf, keyOwner, answersTo, withUsed, withoutUsed, setUsed}
+use Rattle.machine.specs.Slots.{noSlot, isLive, partitionOf, keyOwner, Looked, hit as hitAt, miss, lookup, withUsed, withoutUsed, setUsed}
 use Rattle.machine.specs.Insertion.{overlaps, removed, removes, isEmpty, candidate, entryOf, inserted, placed}
 use Rattle.machine.specs.Sound.{slotSound, sideSound}
 use Rattle.machine.specs.Registers.{partition}
 use Rattle.machine.specs.State.{Counts, State, sideOf, withSide, sound}
 use Rattle.machine.specs.Questions.{flagReal, flagLocked, keyOf, insertion, askedInsertion, asked, ask, verdict}
-use Rattle.machine.specs.Access.{Stepped, accessOf, prepare, settleJudged, settleFound, settle, judge}
+use Rattle.machine.specs.Access.{Stepped, accessOf, prepare, translatedBy, settleJudged, settleLooked, settle, judge}
 use Rattle.machine.specs.declared.VirtualAddress.{VirtualAddress}
 use Rattle.machine.specs.declared.Access.{Access}
+use Rattle.machine.specs.declared.Translation.{Translation}
 use Rattle.machine.specs.declared.Prepared.{Prepared}
 use Rattle.machine.specs.declared.Prepared.the-variants as prepared
 use Rattle.machine.specs.declared.Judged.{Judged}
@@ -198,21 +197,22 @@ module _ (n : Counts) (u : State) (side : ℕ) (e : Entry) (h : sound n u ≡ tr
       (λ f. rw f (side-frame strand flags word s (rw f at i)))
 
   -- an access marks the entry that it finds, and writes registers
-  judged-frame : (v : State) (a : Access) (j : Judged) → Lives v side e → Lives (settleJudged v a j .state) side e
-  judged-frame v a (judged.Faulted t) g = g
-  judged-frame v a (judged.Translated p) g = g
+  judged-frame : (v : State) (a : Access) (p : Translation) (j : Judged) → Lives v side e → Lives (settleJudged v a p j .state) side e
+  judged-frame v a p (judged.Faulted t) g = g
+  judged-frame v a p judged.Permitted g = g
 
-  found-frame : (a : Access) (f : Found) → a .side < 2 → Lives (settleFound u a f .state) side e
-  found-frame a Nothing d = l
-  found-frame a (At i) d =
+  looked-frame : (a : Access) (f : Looked) → a .side < 2 → Lives (settleLooked u a f .state) side e
+  looked-frame a miss d = l
+  looked-frame a (hitAt i r) d =
       let k : ℕ = a .side in
-      judged-frame (withSide u k (setUsed i (sideOf u k))) a (judge (u .registers) a (getD (sideOf u k) i noSlot .word))
+      let word : ℕ = getD (sideOf u k) i noSlot .word in
+      judged-frame (withSide u k (setUsed i (sideOf u k))) a (translatedBy word r) (judge (u .registers) a word)
       (with-side (λ s. LivesIn s e) u (setUsed i (sideOf u k)) k side d b l (λ q. rw q (used-frame (sideOf u side) e l i)))
 
   settled-frame : (a : Access) (p : Prepared) → a .side < 2 → Lives (settle u a p .state) side e
   settled-frame a (prepared.Stopped t tag) d = l
   settled-frame a (prepared.Bypass p) d = l
-  settled-frame a (prepared.Lookup key) d = found-frame a (first (answersTo key) (sideOf u (a .side))) d
+  settled-frame a (prepared.Lookup key) d = looked-frame a (lookup key (sideOf u (a .side))) d
 
   -- every command that no question refused
   act-frame : (c : Command) → verdict u c ≡ Passed → Lives (act u c .state) side e ⊎ Removes u side e c

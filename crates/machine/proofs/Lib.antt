@@ -4,6 +4,7 @@ pub mod Slots
 pub mod Insertion
 pub mod Sound
 pub mod Used
+pub mod Matches
 pub mod State
 pub mod Bytes
 pub mod Runs
@@ -21,6 +22,7 @@ pub mod Commands
 pub mod Demand3
 pub mod Good
 pub mod Searches
+pub mod Extent
 pub mod Reference
 pub mod Demand1
 pub mod Demand2

@@ -11,17 +11,17 @@ use lib.Pow.{split}
 use lib.ListN.{getD}
 use borrow.Author.Tests.{eq-eqb, eqb-true, eqb-false, ne-eqb, lt-ltb, le-ltb, lt-leb, ltb-true}
 use Rattle.laws.specs.Tests.{tick, anyOf}
-use Rattle.laws.specs.declared.Found.the-variants.{Nothing}
 use Rattle.laws.proofs.Bools.{by-test, clash, and-left, and-right, or-left, or-right}
 use Rattle.machine.specs.Pages.{listed, pageShift}
-use Rattle.machine.specs.Words.{bits, wordSound, frame, physicalAt}
+use Rattle.machine.specs.Words.{bits, wordSound, frame, reachOf, physicalBy, physicalAt}
+use Rattle.machine.specs.Slots.{miss}
 use Rattle.machine.specs.Registers.{withRegister, mode, translates, selected, allowed}
 use Rattle.machine.specs.Registers as registers
 use Rattle.machine.specs.State.{Counts, State, withRegisters}
 use Rattle.machine.specs.Questions.{kindSide, keyOf}
 use Rattle.machine.specs.Access.{addressUsed, exception, trapTag, bypassTo, lookupKey, prepare, missTrap}
 use Rattle.machine.specs.Access.{faultType, judge, trapNumber, trapFault, trapRegisters, Stepped, trapTo}
-use Rattle.machine.specs.Access.{settleJudged, settleFound, settle, accessTo}
+use Rattle.machine.specs.Access.{translatedBy, settleJudged, settleLooked, settle, accessTo}
 use Rattle.machine.specs.declared.Access.{Access}
 use Rattle.machine.specs.declared.Tag.{Tag}
 use Rattle.machine.specs.declared.Tag.the-variants as effect
@@ -65,7 +65,7 @@ pub record StepAlike (n : Counts) (r : Stepped) (w : Written) : Type 0 where
 -- where a page of a sound word lies, and the offset in it
 pub physical-alike : (word : ℕ) (used : VirtualAddress) → wordSound word ≡ true → (let address : ℕ = word / 2 ^ 13 % 2 ^ 43 * 2 ^ 13 in
     physicalAt word used .0 ≡ address - address % pageBytes word + used .0 % pageBytes word)
-unfolding wordSound frame physicalAt
+unfolding wordSound frame physicalBy
 physical-alike word used h =
     let l : listed (word % 2 ^ 4) ≡ true = search conj in
     rw (code-bytes (word % 2 ^ 4) l) (omega (arith, split (word / 2 ^ 13 % 2 ^ 43 * 2 ^ 13) (pageShift (word % 2 ^ 4))))
@@ -157,9 +157,10 @@ number-small trap.DataMiss = omega arith
 number-small trap.DataProtection = omega arith
 
 -- the answer that gives a physical address
-physical-told : (p : Translation) → p .attributes < 256 → answerBytes (answer.Physical p) ≡ line 1 (p .attributes) 0 0 (p .address .0) 0
+physical-told : (p : Translation) → p .attributes < 256 → p .code < 256
+    → answerBytes (answer.Physical p) ≡ line 1 (p .attributes) 0 (p .code) (p .address .0) 0
 unfolding answerBytes
-physical-told p h = line-answer 1 (p .address .0) 0 h (omega arith) (omega arith)
+physical-told p h c = line-answer 1 (p .address .0) 0 h (omega arith) c
 
 bypass-small : (b : Bool) → cond b 1 2 < 256
 bypass-small true = omega arith
@@ -206,11 +207,11 @@ fit-none [] last h = refl
 fit-none (q ∷ ss) last h = rw (or-left (q .0) _ h) (fit-none ss last (or-right (q .0) _ h))
 
 -- what holds of each step and of the last holds of the one taken
-abbrev Each : (Written → Type 0) → List (Bool × Written) → Type 0
+abbrev pub Each : (Written → Type 0) → List (Bool × Written) → Type 0
 Each P [] = Unit {0}
 Each P (q ∷ ss) = P (q .1) × Each P ss
 
-fit-ind : (P : Written → Type 0) (ss : List (Bool × Written)) (last : Written) → Each P ss → P last → P (firstFit ss last)
+pub fit-ind : (P : Written → Type 0) (ss : List (Bool × Written)) (last : Written) → Each P ss → P last → P (firstFit ss last)
 unfolding firstFit
 fit-ind P [] last h p = p
 fit-ind P (q ∷ ss) last h p = by-test (q .0) (λ e. rw e (h .0)) (λ e. rw e (fit-ind P ss last (h .1) p))
@@ -306,7 +307,7 @@ module _ {n : Counts} {u : State} {l : Ledger} (k : Alike n u l) (q : Asked) (s 
       (early-next nucleus (prepared.Stopped trap.PrivilegedAction effect.Kept) data-nucleus (refl, refl)
       (trap-alike trap.PrivilegedAction effect.Kept (omega arith))
       (early-next _ (prepared.Bypass (bypassTo (a .used))) (ap (λ x. eqb x 2) m) (refl, refl)
-      (record { bytes = physical-told (bypassTo (a .used)) (bypass-small (eqb (bits 39 1 (a .used .0)) 0)); alike = k })
+      (record { bytes = physical-told (bypassTo (a .used)) (bypass-small (eqb (bits 39 1 (a .used .0)) 0)) (omega arith); alike = k })
       (early-next _ (prepared.Stopped (exception (a .kind) 0x20) (trapTag (u .registers) a)) (ap not (address-good (a .used .0))) (refl, refl)
       (tagged-alike (exception (a .kind) 0x20) (exception-number (a .kind) 0x20) (exception-fault (a .kind) 0x20) (omega arith))
       (looks refl refl))))
@@ -321,7 +322,7 @@ module _ {n : Counts} {u : State} {l : Ledger} (k : Alike n u l) (q : Asked) (s 
       go (ends any z f) = f last
 
   -- ---- after it
-  pub miss-alike : StepAlike n (settleFound u a Nothing) (misses l q)
+  pub miss-alike : StepAlike n (settleLooked u a miss) (misses l q)
   unfolding misses
   miss-alike =
       let m = miss-trap (translates (u .registers) (a .strand) (kindSide (a .kind))) (eqb (a .kind) 0) in
@@ -329,7 +330,7 @@ module _ {n : Counts} {u : State} {l : Ledger} (k : Alike n u l) (q : Asked) (s 
 
   -- what the word of a found entry says
   pub hit-alike : (e : Entry) {word : ℕ} → e .word ≡ word → wordSound word ≡ true
-      → StepAlike n (settleJudged u a (judge (u .registers) a word)) (hits l q e)
+      → StepAlike n (settleJudged u a (translatedBy word (reachOf word (q .used))) (judge (u .registers) a word)) (hits l q e)
   unfolding judge hits firstFit
   hit-alike e {word} w h =
       let fault : ℕ = faultType (mode (u .registers) (a .strand)) (a .kind) word in
@@ -344,7 +345,7 @@ module _ {n : Counts} {u : State} {l : Ledger} (k : Alike n u l) (q : Asked) (s 
       (λ t. rw t (tagged-alike (exception (a .kind) fault) (exception-number (a .kind) fault) (exception-fault (a .kind) fault) (fault-small _ (a .kind) word)))
       (λ t. by-test refused
       (λ f. rw (t, f) (tagged-alike trap.DataProtection refl refl (omega arith)))
-      (λ f. rw (t, f, ← (physical-alike word (a .used) h)) (record { bytes = physical-told _ (omega arith); alike = k }))))
+      (λ f. rw (t, f, ← (physical-alike word (a .used) h)) (record { bytes = physical-told _ (omega arith) (omega arith); alike = k }))))
 
 -- ---- a miss is no hit
 -- the trap numbers of a miss lie from 0x3E to 0x68, and no hit's first field does

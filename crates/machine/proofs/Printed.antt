@@ -2,8 +2,8 @@
 use mathlib.Core.Path.{refl}
 use Rattle.laws.specs.Tests.{allBelow, count, anyOf, allOf, pairwise, firstFrom}
 use Rattle.machine.specs.Pages.{inRange, listed, pageShift}
-use Rattle.machine.specs.Words.{wordSound, wordInsertable, frame, physicalAt}
-use Rattle.machine.specs.Slots.{slotsOf, wordsOf, isCompared, answersTo}
+use Rattle.machine.specs.Words.{wordSound, wordInsertable, frame, physicalBy}
+use Rattle.machine.specs.Slots.{slotsOf, wordsOf, pageMatch, isCompared, answersTo, lookup}
 use Rattle.machine.specs.Insertion.{overlaps, removes, entryOf, wants, choice, inserted, placed, hasSlot}
 use Rattle.machine.specs.Sound.{ownerSound, pageSound, liveSound, emptySound, slotSound, sideSound}
 use Rattle.machine.specs.Registers.{known, writable, baseAllowed, configurationAllowed, allowed, registersSound, resetStrands}
@@ -17,7 +17,7 @@ use Rattle.machine.specs.Stream.{eight, widthOf, commandAt, decodeAt, an
 
 pub printed-run : PrintedRun
 unfolding PrintedRun given printed allBelow count anyOf allOf pairwise firstFrom inRange listed pageShift wordSound
-    wordInsertable frame physicalAt slotsOf wordsOf isCompared answersTo overlaps removes entryOf wants choice inserted placed
+    wordInsertable frame physicalBy slotsOf wordsOf pageMatch isCompared answersTo lookup overlaps removes entryOf wants choice inserted placed
     hasSlot ownerSound pageSound liveSound emptySound slotSound sideSound known writable baseAllowed
     configurationAllowed allowed registersSound resetStrands stateOf encode reset sideFits sound wordsSound asked askedInsertion
     ask verdict prepare faultType judge trapRegisters tsbOffset tsbPointer act step eight widthOf commandAt decodeAt

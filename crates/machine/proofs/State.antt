@@ -10,14 +10,13 @@ use lib.ListN.{length, getD, set, take, drop, replicate, length-set, length-appe
 use lib.Seq.{take-at, drop-at, drop-drop, length-take-le, getD-set-same, getD-set-other}
 use borrow.Author.Tests.{eq-eqb, eqb-true, eqb-false, lt-ltb, le-ltb, ltb-true}
 use Rattle.laws.specs.Tests.{allBelow, allOf, first}
-use Rattle.laws.specs.declared.Found.{Found}
-use Rattle.laws.specs.declared.Found.the-variants.{At, Nothing}
+use Rattle.laws.specs.declared.Found.the-variants.{At}
 use Rattle.laws.proofs.Bools.{by-test, clash, and-both, and-left, and-right}
 use Rattle.laws.proofs.Belows.{below-at, below-change}
 use Rattle.laws.proofs.Walks.{found-at}
 use Rattle.machine.specs.Pages.{inRange, listed}
-use Rattle.machine.specs.Words.{bits, wordInsertable}
-use Rattle.machine.specs.Slots.{slotsOf, wordsOf, noSlot, isLive, keyAddress, answersTo, setUsed}
+use Rattle.machine.specs.Words.{bits, wordInsertable, reachOf}
+use Rattle.machine.specs.Slots.{slotsOf, wordsOf, noSlot, isLive, keyAddress, answersTo, lookup, setUsed}
 use Rattle.machine.specs.Insertion.{removes, candidate, hasSlot}
 use Rattle.machine.specs.Sound.{slotSound, sideSound}
 use Rattle.machine.specs.Registers.{registerWords, cell, register, withRegister, partition, mode, addressMask}
@@ -26,9 +25,11 @@ use Rattle.machine.specs.Registers.{configurationAllowed, allowed, regis
 use Rattle.machine.specs.State.{slotCount, Counts, State, sideOf, withSide, withRegisters, stateWords, stateOf}
 use Rattle.machine.specs.State.{encode, reset, sideFits, sound, wordsSound}
 use Rattle.machine.specs.Questions.{Question, kindSide, flagReal, flagLocked, keyOf, insertion, askedInsertion, asked, ask, verdict}
-use Rattle.machine.specs.Access.{judge, prepare, trapTag, trapRegisters, accessOf, settleJudged, settleFound, settle}
+use Rattle.machine.specs.Access.{judge, prepare, trapTag, trapRegisters, accessOf, translatedBy, settleJudged, settleLooked, settle}
 use Rattle.machine.specs.declared.VirtualAddress.{VirtualAddress}
 use Rattle.machine.specs.declared.Access.{Access}
+use Rattle.machine.specs.declared.Reach.{Reach}
+use Rattle.machine.specs.declared.Translation.{Translation}
 use Rattle.machine.specs.declared.Tag.{Tag}
 use Rattle.machine.specs.declared.Tag.the-variants as effect
 use Rattle.machine.specs.declared.Prepared.{Prepared}
@@ -48,7 +49,8 @@ use Rattle.machine.specs.declared.Verdict.the-variants.{Passed, Refused}
 use Rattle.machine.proofs.Words.{insertable-sound}
 use Rattle.machine.proofs.Slots.{words-back, slots-back, words-length}
 use Rattle.machine.proofs.Insertion.{length-removed, length-inserted, no-slot}
-use Rattle.machine.proofs.Used.{SameSlots, found-slots}
+use Rattle.machine.proofs.Used.{SameSlots, hit-slots}
+use Rattle.machine.proofs.Matches.{looked-by}
 use Rattle.machine.proofs.Sound.{entry-sound, answers-live, empty-sound, sound-removed, sound-set-used, sound-inserted}
 
 ruleset conj = (and-left, and-right, eqb-true, ltb-true)
@@ -334,22 +336,26 @@ same-sound n u v h (i, d) r = and-both _ _ r (rw (i, d) (and-right (registersSou
 
 -- an access of a known strand, from where it stops
 module _ (n : Counts) (a : Access) (s : a .strand < 4) (d : a .side < 2) where
-  judged-registers : (u : State) (j : Judged) → registersSound (u .registers) ≡ true → registersSound (settleJudged u a j .state .registers) ≡ true
-  judged-registers u (judged.Faulted t) h = trap-sound (u .registers) a t (trapTag (u .registers) a) h s d
-  judged-registers u (judged.Translated p) h = h
+  judged-registers : (u : State) (p : Translation) (j : Judged) → registersSound (u .registers) ≡ true
+      → registersSound (settleJudged u a p j .state .registers) ≡ true
+  judged-registers u p (judged.Faulted t) h = trap-sound (u .registers) a t (trapTag (u .registers) a) h s d
+  judged-registers u p judged.Permitted h = h
 
-  found-sound : (u : State) (key : Key) (f : Found) → sound n u ≡ true → first (answersTo key) (sideOf u (a .side)) ≡ f
-      → sound n (settleFound u a f .state) ≡ true
-  found-sound u key Nothing h e = same-sound n u _ h (refl, refl) (trap-sound (u .registers) a _ _ (sound-registers n u h) s d)
-  found-sound u key (At i) h e =
+  looked-sound : (u : State) (key : Key) → sound n u ≡ true → sound n (settleLooked u a (lookup key (sideOf u (a .side))) .state) ≡ true
+  looked-sound u key h =
       let side : ℕ = a .side in
-      same-sound n (withSide u side (setUsed i (sideOf u side))) _ (marked-sound n u side i key h e) (found-slots u a i)
-      (judged-registers _ (judge (u .registers) a (getD (sideOf u side) i noSlot .word)) (sound-registers n u h))
+      looked-by key (sideOf u side) (λ f. sound n (settleLooked u a f .state) ≡ true)
+      (λ e. same-sound n u _ h (refl, refl) (trap-sound (u .registers) a _ _ (sound-registers n u h) s d))
+      (λ i e.
+      let word : ℕ = getD (sideOf u side) i noSlot .word in
+      let r : Reach = reachOf word (keyAddress key) in
+      same-sound n (withSide u side (setUsed i (sideOf u side))) _ (marked-sound n u side i key h e) (hit-slots u a i r)
+      (judged-registers _ (translatedBy word r) (judge (u .registers) a word) (sound-registers n u h)))
 
   settled-sound : (u : State) (p : Prepared) → sound n u ≡ true → sound n (settle u a p .state) ≡ true
   settled-sound u (prepared.Stopped t tag) h = same-sound n u _ h (refl, refl) (trap-sound (u .registers) a t tag (sound-registers n u h) s d)
   settled-sound u (prepared.Bypass p) h = same-sound n u _ h (refl, refl) (sound-registers n u h)
-  settled-sound u (prepared.Lookup key) h = found-sound u key (first (answersTo key) (sideOf u (a .side))) h refl
+  settled-sound u (prepared.Lookup key) h = looked-sound u key h
 
 -- every command that no question refused
 pub act-sound : (n : Counts) (u : State) (c : Command) → sound n u ≡ true → verdict u c ≡ Passed → sound n (act u c .state) ≡ true

@@ -8,7 +8,7 @@ use lib.Pow.{pow-pos, split, high, mod-pow-add}
 use borrow.Author.Tests.{eqb-true, ltb-true}
 use Rattle.laws.proofs.Bools.{and-left, and-right}
 use Rattle.machine.specs.Pages.{pageShift}
-use Rattle.machine.specs.Words.{bits, unpacked, packed, fields, wordSound, wordInsertable, frame, physicalAt}
+use Rattle.machine.specs.Words.{bits, unpacked, packed, fields, wordSound, wordInsertable, frame, physicalBy, physicalAt}
 use Rattle.machine.specs.declared.VirtualAddress.{VirtualAddress}
 use Rattle.machine.specs.declared.Tte.{Tte}
 use Rattle.machine.proofs.Pages.{shift-small, coarser}
@@ -45,7 +45,7 @@ insertable-sound w h = h
 
 -- no address in the page leaves the word's block of 2^40, whatever the word
 pub physical-block : (w : ℕ) (address : VirtualAddress) → physicalAt w address .0 / 2 ^ 40 ≡ bits 40 16 w
-unfolding frame physicalAt
+unfolding frame physicalBy
 physical-block w address =
     let k : ℕ = pageShift (w % 2 ^ 4) in
     let a : ℕ = bits 13 43 w * 2 ^ 13 in

@@ -1,15 +1,13 @@
--- Document 01, "Access": prepare (the mask, steps 1 to 4), lookup (5), judge (6 to 8), settle (used bit and registers).
+-- Document 01, "Access": prepare (the mask, steps 1 to 4), lookup (5), judge (6 and 7), translate (8), settle (used bit and registers).
 -- Assumes nothing.
 use Prim.Native.Nat.{ℕ, _+_, _*_, _%_, _^_}
 use mathlib.Core.Bool.{not, cond, _&&_, _||_}
 use mathlib.Core.List.{List}
 use lib.Dec.{eqb, ltb}
 use lib.ListN.{getD}
-use Rattle.laws.specs.declared.Found.{Found}
-use Rattle.laws.specs.declared.Found.the-variants.{At, Nothing}
 use Rattle.machine.specs.Pages.{inRange, bypassed}
-use Rattle.machine.specs.Words.{bits, physicalAt}
-use Rattle.machine.specs.Slots.{noSlot, search, setUsed}
+use Rattle.machine.specs.Words.{bits, physicalBy}
+use Rattle.machine.specs.Slots.{noSlot, Looked, hit, miss, lookup, setUsed}
 use Rattle.machine.specs.Registers.{register, withRegister, partition, mode, translates, addressMask, selected}
 use Rattle.machine.specs.Registers.{tagNumber, tagOf, faultAddressNumber, faultNumber}
 use Rattle.machine.specs.Questions.{kindSide, keyOf}
@@ -19,6 +17,7 @@ use Rattle.machine.specs.declared.Key.{Key}
 use Rattle.machine.specs.declared.VirtualAddress.{VirtualAddress}
 use Rattle.machine.specs.declared.Trap.{Trap}
 use Rattle.machine.specs.declared.Trap.the-variants as trap
+use Rattle.machine.specs.declared.Reach.{Reach}
 use Rattle.machine.specs.declared.Translation.{Translation}
 use Rattle.machine.specs.declared.Access.{Access}
 use Rattle.machine.specs.declared.Tag.{Tag}
@@ -54,9 +53,9 @@ exception kind fault = cond (eqb kind 0) (trap.InstructionAccessException fault)
 abbrev pub trapTag : List ℕ → Access → Tag
 trapTag file a = effect.Written (cond (translates file (a .strand) (a .side)) (selected file (a .strand) (a .selector)) 0)
 
--- step 3: the attributes of a bypass go by bit 39: cp alone (1) where it is 0, e alone (2) where it is 1
+-- step 3: the attributes of a bypass go by bit 39: cp alone (1) where it is 0, e alone (2) where it is 1. It has no page, which 15 says (U3)
 abbrev pub bypassTo : VirtualAddress → Translation
-bypassTo a = record { address = bypassed a; attributes = cond (eqb (bits 39 1 (a .0)) 0) 1 2 }
+bypassTo a = record { address = bypassed a; attributes = cond (eqb (bits 39 1 (a .0)) 0) 1 2; code = 15 }
 
 -- step 5: with translation off the key is real, and asks for no context
 abbrev pub lookupKey : List ℕ → Access → Key
@@ -92,19 +91,22 @@ faultType mode kind word =
     + cond (eqb kind 3 && eqb (bits 10 1 word) 0) 0x04 0
     + cond (eqb (bits 62 1 word) 1 && not (eqb kind 4)) 0x10 0
 
--- byte a of a physical answer ("The stream"): cp counts 1, e 2, ie 4
-abbrev pub attributesOf : ℕ → ℕ
-attributesOf word = bits 10 1 word + 2 * bits 11 1 word + 4 * bits 12 1 word
-
 unfoldable pub judge : List ℕ → Access → ℕ → Judged
 judge file a word =
     let fault : ℕ = faultType (mode file (a .strand)) (a .kind) word in
     -- 6. any fault type stops the access
     cond (not (eqb fault 0)) (judged.Faulted (exception (a .kind) fault))
     -- 7. a store or an atomic needs w
-    (cond ((eqb (a .kind) 2 || eqb (a .kind) 3) && eqb (bits 6 1 word) 0) (judged.Faulted trap.DataProtection)
-    -- 8. the others get their physical address
-    (judged.Translated (record { address = physicalAt word (a .used); attributes = attributesOf word })))
+    (cond ((eqb (a .kind) 2 || eqb (a .kind) 3) && eqb (bits 6 1 word) 0) (judged.Faulted trap.DataProtection) judged.Permitted)
+
+-- ---- translate
+-- byte a of a physical answer ("The stream"): cp counts 1, e 2, ie 4
+abbrev pub attributesOf : ℕ → ℕ
+attributesOf word = bits 10 1 word + 2 * bits 11 1 word + 4 * bits 12 1 word
+
+-- step 8: the physical address and byte c (document 02, U3) both come from the one match
+abbrev pub translatedBy : ℕ → Reach → Translation
+translatedBy word r = record { address = physicalBy word r; attributes = attributesOf word; code = r .code }
 
 -- ---- settle
 -- the number that "Access" gives to a trap
@@ -158,21 +160,22 @@ trapTo u a t tag =
     stepped (withRegisters u file)
     (answer.Trap (record { trap = t; address = a .used; tag = register file (a .strand) (tagNumber (a .side)) }))
 
-abbrev pub settleJudged : State → Access → Judged → Stepped
-settleJudged u a (judged.Faulted t) = trapTo u a t (trapTag (u .registers) a)
-settleJudged u a (judged.Translated p) = stepped u (answer.Physical p)
+abbrev pub settleJudged : State → Access → Translation → Judged → Stepped
+settleJudged u a p (judged.Faulted t) = trapTo u a t (trapTag (u .registers) a)
+settleJudged u a p judged.Permitted = stepped u (answer.Physical p)
 
 -- step 6: a hit has its used bit set (document 01: it is marked), whatever its word then says; a miss sets none
-abbrev pub settleFound : State → Access → Found → Stepped
-settleFound u a Nothing = trapTo u a (missTrap (u .registers) a) (trapTag (u .registers) a)
-settleFound u a (At i) =
+abbrev pub settleLooked : State → Access → Looked → Stepped
+settleLooked u a miss = trapTo u a (missTrap (u .registers) a) (trapTag (u .registers) a)
+settleLooked u a (hit i r) =
     let s : List Slot = sideOf u (a .side) in
-    settleJudged (withSide u (a .side) (setUsed i s)) a (judge (u .registers) a (getD s i noSlot .word))
+    let word : ℕ = getD s i noSlot .word in
+    settleJudged (withSide u (a .side) (setUsed i s)) a (translatedBy word r) (judge (u .registers) a word)
 
 abbrev pub settle : State → Access → Prepared → Stepped
 settle u a (prepared.Stopped t tag) = trapTo u a t tag
 settle u a (prepared.Bypass p) = stepped u (answer.Physical p)
-settle u a (prepared.Lookup key) = settleFound u a (search key (sideOf u (a .side)))
+settle u a (prepared.Lookup key) = settleLooked u a (lookup key (sideOf u (a .side)))
 
 abbrev pub accessTo : State → Access → Stepped
 accessTo u a = settle u a (prepare (u .registers) a)

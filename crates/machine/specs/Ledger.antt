@@ -267,13 +267,13 @@ unfoldable pub firstFit : List (Bool × Written) → Written → Written
 firstFit [] last = last
 firstFit (s ∷ ss) last = cond (s .0) (s .1) (firstFit ss last)
 
--- steps 1 to 4: whether the access ends before the lookup
+-- steps 1 to 4: whether the access ends before the lookup. A bypass has 15 where a hit has a size code
 unfoldable pub earlySteps : Ledger → Asked → List (Bool × Written)
 earlySteps l a =
     let mode : ℕ = l .registers (a .strand) 3 in
     (not (eqb (a .used % 2 ^ a .size) 0), plainTrap l a 0x34)
     ∷ (eqb mode 0 && (eqb (askedSide a) 1 && eqb (a .selector) 2), plainTrap l a 0x37)
-    ∷ (eqb mode 2, answers l (line 1 (cond (eqb (bit 39 (a .used)) 0) 1 2) 0 0 (a .used % 0x100_0000_0000) 0))
+    ∷ (eqb mode 2, answers l (line 1 (cond (eqb (bit 39 (a .used)) 0) 1 2) 0 15 (a .used % 0x100_0000_0000) 0))
     ∷ (not (addressGood (a .used)), taggedTrap l a (cond (eqb (a .kind) 0) 0x08 0x30) 0x20)
     ∷ []
 
@@ -292,7 +292,7 @@ misses l a =
     (cond (eqb (a .kind) 0) (cond (translationOn l a) 0x64 0x3E) (cond (translationOn l a) 0x68 0x3F))
     0
 
--- steps 6 to 8 on the entry found
+-- steps 6 to 8 on the entry found; a physical address comes with the entry's size code (document 02, U3)
 unfoldable pub hits : Ledger → Asked → Entry → Written
 hits l a e =
     let word : ℕ = e .word in
@@ -306,7 +306,8 @@ hits l a e =
     ((not (eqb type 0), taggedTrap l a (cond (eqb (a .kind) 0) 0x08 0x30) type)
     ∷ (eqb (bit 6 word) 0 && (eqb (a .kind) 2 || eqb (a .kind) 3), taggedTrap l a 0x6C 0)
     ∷ [])
-    (answers l (line 1 (bit 10 word + 2 * bit 11 word + 4 * bit 12 word) 0 0 (address - address % pageBytes word + a .used % pageBytes word) 0))
+    (answers l
+    (line 1 (bit 10 word + 2 * bit 11 word + 4 * bit 12 word) 0 (word % 16) (address - address % pageBytes word + a .used % pageBytes word) 0))
 
 abbrev pub lookedUp : Ledger → Asked → Option Entry → Written
 lookedUp l a none = misses l a

@@ -18,6 +18,7 @@ pub mod Demand3
 pub mod Searches
 pub mod Good
 pub mod Reference
+pub mod Extent
 pub mod Demand1
 pub mod Demand2
 pub mod Examples

@@ -2,16 +2,19 @@
 -- Assumes nothing.
 use Prim.Native.Nat.{ℕ, _+_, _*_, _/_, _%_, _^_, _<_}
 use mathlib.Core.List.{List, [], _∷_, map}
-use mathlib.Core.Bool.{Bool, true, false, not, _&&_}
+use mathlib.Core.Bool.{Bool, true, false, not, cond, _&&_}
 use lib.Dec.{eqb}
 use lib.ListN.{getD, set}
 use lib.Seq.{sets}
 use Rattle.laws.specs.Tests.{tick, first, countUpTo}
 use Rattle.laws.specs.declared.Found.{Found}
+use Rattle.laws.specs.declared.Found.the-variants.{At, Nothing}
 use Rattle.machine.specs.Pages.{pageStart}
+use Rattle.machine.specs.Words.{reachOf}
 use Rattle.machine.specs.declared.Slot.{Slot}
 use Rattle.machine.specs.declared.Key.{Key}
 use Rattle.machine.specs.declared.Key.the-variants.{Virtual, Real}
+use Rattle.machine.specs.declared.Reach.{Reach}
 use Rattle.machine.specs.declared.Searched.{Searched}
 
 -- ---- slots and words: each determines the other
@@ -95,6 +98,14 @@ agrees (Real partition address) x = eqb (partitionOf x) partition && isReal x
 abbrev pub holds : Slot → ℕ → Bool
 holds x address = eqb (pageStart (sizeCode x) address) (x .page)
 
+-- the match of an address against an entry (document 02, U3): outside its page; or within it, with the size code and the offset
+pub data PageMatch : Type 0 where
+  outside : PageMatch
+  within : Reach → PageMatch
+
+unfoldable pub pageMatch : Slot → ℕ → PageMatch
+pageMatch x address = cond (holds x address) (within (reachOf (x .word) address)) outside
+
 -- a slot whose page is compared: it agrees and is live. An empty one agrees with partition 0, virtual, context 0, and its page is no page
 unfoldable pub isCompared : Key → Slot → Bool
 isCompared key x = agrees key x && isLive x
@@ -109,6 +120,22 @@ search key s = first (answersTo key) s
 -- what a search yields: the lowest slot that answers, and how many pages it compared, that one's too
 abbrev pub searched : Key → List Slot → Searched
 searched key s = record { found = search key s; compared = countUpTo (isCompared key) (answersTo key) s }
+
+-- what a lookup yields: the slot found, and how the address lies in its page. No slot is found whose page is not matched
+pub data Looked : Type 0 where
+  hit : ℕ → Reach → Looked
+  miss : Looked
+
+abbrev pub matchedAt : ℕ → PageMatch → Looked
+matchedAt i (within r) = hit i r
+matchedAt i outside = miss
+
+abbrev pub lookedAt : Key → List Slot → Found → Looked
+lookedAt key s (At i) = matchedAt i (pageMatch (getD s i noSlot) (keyAddress key))
+lookedAt key s Nothing = miss
+
+unfoldable pub lookup : Key → List Slot → Looked
+lookup key s = lookedAt key s (search key s)
 
 -- ---- used bits
 abbrev pub withUsed : Slot → Slot

@@ -90,8 +90,8 @@ fields kind a b c v w = record { kind = kind; a = a; b = b; c = c; first = v; se
 abbrev pub fieldsOf : Answer → Fields
 -- done; a demap says how many it removed
 fieldsOf (answer.Done n) = fields 0 0 0 0 n 0
--- physical: a has the attributes
-fieldsOf (answer.Physical t) = fields 1 (t .attributes) 0 0 (t .address .0) 0
+-- physical: a has the attributes, c the size code (document 02, U3)
+fieldsOf (answer.Physical t) = fields 1 (t .attributes) 0 (t .code) (t .address .0) 0
 -- trap: the address used, then tag access as the trap leaves it
 fieldsOf (answer.Trap t) = fields 2 (trapNumber (t .trap)) (trapFault (t .trap)) 0 (t .address .0) (t .tag)
 -- read: a register, or both pointers

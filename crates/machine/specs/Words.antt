@@ -7,6 +7,7 @@ use Rattle.machine.specs.Pages.{listed, pageStart, pageOffset}
 use Rattle.machine.specs.declared.VirtualAddress.{VirtualAddress}
 use Rattle.machine.specs.declared.Tte.{Tte}
 use Rattle.machine.specs.declared.PhysicalAddress.{PhysicalAddress}
+use Rattle.machine.specs.declared.Reach.{Reach}
 
 -- n bits of a word, from bit k up
 abbrev pub bits : ℕ → ℕ → ℕ → ℕ
@@ -66,6 +67,14 @@ wordInsertable word = wordSound word
 unfoldable pub frame : ℕ → PhysicalAddress
 frame word = record { 0 = pageStart (word % 2 ^ 4) (bits 13 43 word * 2 ^ 13) }
 
--- step 8: the physical address of an address in the page
-unfoldable pub physicalAt : ℕ → VirtualAddress → PhysicalAddress
-physicalAt word address = record { 0 = frame word .0 + pageOffset (word % 2 ^ 4) (address .0) }
+-- how an address lies in a page of the word's size (document 02, U3): the size code, and the offset
+abbrev pub reachOf : ℕ → ℕ → Reach
+reachOf word address = record { code = word % 2 ^ 4; offset = pageOffset (word % 2 ^ 4) address }
+
+-- step 8: the frame, and the offset that the match gave
+unfoldable pub physicalBy : ℕ → Reach → PhysicalAddress
+physicalBy word r = record { 0 = frame word .0 + r .offset }
+
+-- the physical address of an address in the page
+abbrev pub physicalAt : ℕ → VirtualAddress → PhysicalAddress
+physicalAt word address = physicalBy word (reachOf word (address .0))

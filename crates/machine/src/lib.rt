@@ -13,6 +13,7 @@ ghost use Rattle.machine.specs.Frame.{Framed, SoundKept};
 ghost use Rattle.machine.specs.Examples.{Starred, PrintedRun};
 ghost use Rattle.machine.specs.Format.{Readable, Decodes};
 ghost use Rattle.machine.specs.Searches.{Searches};
+ghost use Rattle.machine.specs.Extent.{Extent};
 use laws::Found;
 
 // Registers by number: document 01, "Registers". One that each side has stands at the number given plus the side.
@@ -60,6 +61,9 @@ pub const STATE_WORDS: usize = REGISTER_WORDS + 2 * SIDE_WORDS;
 pub const ANSWER_BYTES: usize = 24;
 
 pub const TSB_ENTRY_BYTES: usize = 16;
+
+// What stands for the size code of a bypass, which has no page.
+pub const BYPASS_CODE: u64 = 15;
 
 // The three kinds of address. None is read for another: each crossing is a function with a name.
 pub struct VirtualAddress(pub u64);
@@ -109,6 +113,12 @@ pub struct Slot {
     pub page: u64,
     pub word: u64,
     pub flags: u64,
+}
+
+// What the match of an address against an entry yields: the size code of the page, and the offset in it.
+pub struct Reach {
+    pub code: u64,
+    pub offset: u64,
 }
 
 // What a search of slots yields: the slot found, and how many pages were compared.
@@ -258,10 +268,10 @@ pub enum Prepared {
     Lookup(Key),
 }
 
-// What a found entry's word says to an access.
+// What a found entry's word says to an access: a trap, or that it may go on.
 pub enum Judged {
     Faulted(Trap),
-    Translated(Translation),
+    Permitted,
 }
 
 // A trap with the address used and the tag access register after it.
@@ -271,10 +281,11 @@ pub struct Trapped {
     pub trap: Trap,
 }
 
-// A physical address, and cp + 2 * e + 4 * ie of its page.
+// A physical address, cp + 2 * e + 4 * ie of its page, and the page's size code; of a bypass 15.
 pub struct Translation {
     pub address: PhysicalAddress,
     pub attributes: u64,
+    pub code: u64,
 }
 
 // A displaced entry as an answer names it: partition, real bit, page address plus context, and the word.
@@ -335,6 +346,7 @@ pub fn answer_width() -> usize
     ensures sound { λ r. ⌜ SoundKept ⌝ }
     ensures framed { λ r. ⌜ Framed ⌝ }
     ensures searches { λ r. ⌜ ((n : Counts) → Searches n) ⌝ }
+    ensures extent { λ r. ⌜ ((n : Counts) → Extent n) ⌝ }
     ensures decodes { λ r. ⌜ Decodes ⌝ }
     ensures starred { λ r. ⌜ Starred ⌝ }
     ensures printed { λ r. ⌜ PrintedRun ⌝ }

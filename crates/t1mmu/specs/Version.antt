@@ -6,6 +6,6 @@ use Prim.Native.Nat.{ℕ, _+_, _*_}
 abbrev pub versionNumber : ℕ → ℕ → ℕ → ℕ
 versionNumber major minor patch = major * 65536 + minor * 256 + patch
 
--- 1.1.1: document 01, and U1 and U2 of document 02
+-- 1.2.0: document 01, and U1 to U3 of document 02
 abbrev pub version : ℕ
-version = versionNumber 1 1 1
+version = versionNumber 1 2 0

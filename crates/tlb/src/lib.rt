@@ -1,18 +1,19 @@
 // The slots of one side of a TLB as lent words, four a slot, any number of them: read, store, search, used bits, overlap.
 ghost use mathlib.Core.Path.{_≡_};
 ghost use mathlib.Core.Bool.{true, not};
-ghost use Prim.Native.Nat.{_+_, _*_, _<_, _≤_, _%_, max};
+ghost use Prim.Native.Nat.{_+_, _*_, _<_, _≤_, _%_, _^_, max};
 ghost use lib.ListN.{length, drop};
 ghost use Rattle.laws.specs.Tests.{anyOf};
 ghost use Rattle.machine.specs.Pages.{pageSize};
 ghost use Rattle.machine.specs.Slots.{slotsOf, wordsOf, slotOf, withSlot, onSlot, ownerWord, keyOwner, keyAddress, KeyFits};
 ghost use Rattle.machine.specs.Slots.{agrees, answersTo, searched, withUsed, clearUsed};
-ghost use Rattle.machine.specs.Slots.{isLive, sizeCode, partitionOf, isReal, contextOf, isLocked, isUsed, holds};
+ghost use Rattle.machine.specs.Slots.{isLive, sizeCode, partitionOf, isReal, contextOf, isLocked, isUsed, holds, within, pageMatch};
 ghost use Rattle.machine.specs.Insertion.{overlaps};
 ghost use Rattle.machine.specs.Sound.{slotSound, sideSound};
 ghost use Rattle.tlb.specs.Tables.{startsOf, spansOf, comparedBy, startsBy, searchedFrom, Walks};
 use laws::Found;
 use machine::Key;
+use machine::Reach;
 use machine::Searched;
 use machine::Slot;
 
@@ -89,6 +90,18 @@ pub fn holds(x: Slot, address: u64) -> bool
     ensures { λ r. ⌜ r ≡ holds x address ⌝ }
 {
     pages::page_start(size_code(x), address) == x.page
+}
+
+// What the match yields of an address that the slot's page holds. The page's start is at hand, so nothing is rounded again.
+pub fn reach_of(x: Slot, address: u64) -> Reach
+    requires { ⌜ holds x address ≡ true ⌝ }
+    ensures matched { λ r. ⌜ pageMatch x address ≡ within r ⌝ }
+    ensures small { λ r. ⌜ r .offset < 2 ^ 28 ⌝ }
+{
+    Reach {
+        code: size_code(x),
+        offset: address - x.page,
+    }
 }
 
 // Partition, real bit and context as a slot holds them.

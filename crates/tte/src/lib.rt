@@ -1,11 +1,11 @@
 // Entry words (sun4v TTEs): document 01, "Addresses and entry words".
 ghost use mathlib.Core.Path.{_≡_};
 ghost use mathlib.Core.Bool.{true};
-ghost use Prim.Native.Nat.{_%_, _^_};
-ghost use Rattle.machine.specs.Words.{bits, unpacked, packed, fields, wordSound, wordInsertable, frame, physicalAt};
+ghost use Prim.Native.Nat.{_%_, _^_, _<_};
+ghost use Rattle.machine.specs.Words.{bits, unpacked, packed, fields, wordSound, wordInsertable, frame, physicalBy};
 use machine::PhysicalAddress;
+use machine::Reach;
 use machine::Tte;
-use machine::VirtualAddress;
 
 // All fields of an entry word. Packed again they are the word.
 pub fn unpack(word: u64) -> Tte
@@ -79,10 +79,11 @@ fn page_frame(word: u64) -> PhysicalAddress
     PhysicalAddress(pages::page_start(size_code(word), address_field(word) << 13))
 }
 
-// The physical address of an address in a word's page.
-pub fn physical_address(word: u64, address: VirtualAddress) -> PhysicalAddress
-    ensures { λ r. ⌜ r ≡ physicalAt word address ⌝ }
+// The physical address at the offset of a match, which lies in the word's page.
+pub fn physical_address(word: u64, reach: Reach) -> PhysicalAddress
+    requires { ⌜ reach .offset < 2 ^ 28 ⌝ }
+    ensures { λ r. ⌜ r ≡ physicalBy word reach ⌝ }
 {
     let start = page_frame(word);
-    PhysicalAddress(start.0 + pages::page_offset(word % 16, address.0))
+    PhysicalAddress(start.0 + reach.offset)
 }

@@ -241,7 +241,7 @@ fn words_of(answer: Answer) -> AnswerWords
             second: 0,
         },
         Answer::Physical(t) => AnswerWords {
-            head: head_word(1, t.attributes, 0, 0),
+            head: head_word(1, t.attributes, 0, t.code),
             first: t.address.0,
             second: 0,
         },

@@ -27,6 +27,14 @@ pub enum Broken {
     MaskInMode2,
     /// a dirty empty slot passes as sound
     DirtyEmptySlots,
+    /// a bypass says size code 0
+    BypassCode0,
+    /// a hit has no size code
+    HitCode0,
+    /// a hit says that it has no page
+    HitCode15,
+    /// the largest pages have the size code of the next ones
+    HitCode5As3,
     /// the miss handler takes the table of the other contexts
     ServeSwapped,
     /// N of the ps1 table
@@ -85,6 +93,10 @@ const NAMES: &[(&str, Broken)] = &[
     ("refuse-despite-overlap", Broken::RefuseDespiteOverlap),
     ("mask-in-mode-2", Broken::MaskInMode2),
     ("dirty-empty-slots", Broken::DirtyEmptySlots),
+    ("bypass-code-0", Broken::BypassCode0),
+    ("hit-code-0", Broken::HitCode0),
+    ("hit-code-15", Broken::HitCode15),
+    ("hit-code-5-as-3", Broken::HitCode5As3),
     ("serve-swapped", Broken::ServeSwapped),
     ("serve-ps1-base", Broken::ServePs1Base),
     ("serve-ps1-size", Broken::ServePs1Size),
@@ -128,4 +140,14 @@ pub fn names() -> Vec<&'static str> {
 
 pub fn is(which: Broken) -> bool {
     CHOSEN.load(Ordering::Relaxed) == which as u8
+}
+
+/// The size code of a hit, by a model that may be broken.
+pub fn code(code: u8) -> u8 {
+    match code {
+        _ if is(Broken::HitCode0) => 0,
+        _ if is(Broken::HitCode15) => 15,
+        5 if is(Broken::HitCode5As3) => 3,
+        _ => code,
+    }
 }

@@ -9,8 +9,10 @@ pub struct Coverage {
     /// by command code and number
     refusals: [[u64; 14]; 10],
     traps: Vec<u64>,
-    /// bypasses into memory and into I/O space are told by their attributes 1 and 2 in mode 2
     attributes: [u64; 8],
+    /// physical answers: of lookups by fetch, realness and size code; of bypasses by fetch and I/O space
+    translated: [[[u64; 6]; 2]; 2],
+    bypassed: [[u64; 2]; 2],
     /// by command code: removals of none, one, several
     removed: [[u64; 3]; 10],
     stops: [u64; 5],
@@ -81,6 +83,8 @@ impl Default for Coverage {
             refusals: [[0; 14]; 10],
             traps: vec![0; 65536],
             attributes: [0; 8],
+            translated: [[[0; 6]; 2]; 2],
+            bypassed: [[0; 2]; 2],
             removed: [[0; 3]; 10],
             stops: [0; 5],
             choices: [0; 6],
@@ -120,7 +124,7 @@ impl Serves {
                 self.free_bits += *free_bits as u64;
             }
             Event::Served(entry) => self.entries.push(*entry),
-            Event::Found(_) => {}
+            Event::Found(_) | Event::Translated { .. } | Event::Bypassed { .. } => unreachable!("of a run"),
         }
     }
 
@@ -170,6 +174,8 @@ impl Coverage {
                     self.found[entry.real as usize][(entry.word & 15) as usize] += 1;
                     self.serves.found(entry);
                 }
+                Event::Translated { fetch, real, code } => self.translated[*fetch as usize][*real as usize][*code as usize] += 1,
+                Event::Bypassed { fetch, io } => self.bypassed[*fetch as usize][*io as usize] += 1,
                 _ => unreachable!("of a serve"),
             }
         }
@@ -216,6 +222,7 @@ impl Coverage {
             }
         }
         (0..8).for_each(|a| all.push((format!("physical a = {a}"), self.attributes[a])));
+        self.physical_items(&mut all);
         for code in 3..6 {
             for (n, many) in ["none", "one", "several"].iter().enumerate() {
                 if (code, n) != (3, 2) {
@@ -233,6 +240,17 @@ impl Coverage {
         self.serves.items(&mut all);
         self.start_items(&mut all);
         all
+    }
+
+    fn physical_items(&self, all: &mut Vec<(String, u64)>) {
+        for (fetch, by) in ["data", "fetch"].iter().enumerate() {
+            for (real, name) in ["virtual", "real"].iter().enumerate() {
+                [0, 1, 3, 5].iter().for_each(|&code: &usize| all.push((format!("{by} physical, {name}, c = {code}"), self.translated[fetch][real][code])));
+            }
+            for (io, space) in ["memory", "I/O space"].iter().enumerate() {
+                all.push((format!("{by} bypass into {space}"), self.bypassed[fetch][io]));
+            }
+        }
     }
 
     fn start_items(&self, all: &mut Vec<(String, u64)>) {

@@ -239,7 +239,7 @@ impl Ledger {
         }
         if r[3] == 2 {
             let io = address >> 39 & 1 == 1;
-            return bytes([1, if io { 2 } else { 1 }, 0, 0], address % (1 << 40), 0);
+            return bytes([1, if io { 2 } else { 1 }, 0, 15], address % (1 << 40), 0);
         }
         if !reachable(address) {
             return self.trap(strand, side, [0x08, 0x30][side], 0x20, address, Some(tag));
@@ -272,7 +272,7 @@ impl Ledger {
         let by = shift(e.word % 16).expect("only listed sizes are live");
         let frame = e.word << 8 >> 8 >> by << by;
         let attributes = e.word >> 10 & 7;
-        bytes([1, attributes as u8, 0, 0], frame + (address - (address >> by << by)), 0)
+        bytes([1, attributes as u8, 0, (e.word % 16) as u8], frame + (address - (address >> by << by)), 0)
     }
 
     fn trap(&mut self, strand: u8, side: usize, number: u8, fault: u8, address: u64, tag: Option<u64>) -> Bytes {

@@ -1,6 +1,7 @@
 //! A second model of the unit and its miss handler, written from the documents and not from the proved code, with the plain
 //! ledger of demand 3 beside it and the streams, tables and states on which all three are compared.
 pub mod broken;
+pub mod changes;
 pub mod command;
 pub mod compare;
 pub mod coverage;

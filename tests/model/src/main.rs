@@ -2,7 +2,7 @@
 use model::compare::{compare, compare_words, shrink, stream, told, Counts, Stream};
 use model::coverage::Coverage;
 use model::vectors::{self, Vector};
-use model::{broken, misses, sweeps};
+use model::{broken, changes, misses, sweeps};
 use std::io::Write;
 use std::process::{exit, Command, Stdio};
 use t1mmu::{state_words, STATE_WORDS};
@@ -76,6 +76,16 @@ fn read_file(path: &String) -> Vec<u8> {
 
 fn text_of(path: &String) -> String {
     String::from_utf8(read_file(path)).unwrap_or_else(|e| fail(&e.to_string()))
+}
+
+/// Whether the answers in a file changed since version 1.1.1 in byte c of physical ones alone; 1 where they did not, or none did.
+fn changed(path: &String) -> u64 {
+    match changes::count(&text_of(path)) {
+        Ok(n) if n > 0 => println!("model: {path}: {n} answers since version 1.1.1, each in byte c of a physical one alone"),
+        Ok(_) => return differs(path, "answers since version 1.1.1", "some\n", "none\n"),
+        Err(error) => return differs(path, "answers since version 1.1.1", "", &format!("{error}\n")),
+    }
+    0
 }
 
 /// Hand-checked serves; how many differ.
@@ -167,6 +177,7 @@ fn main() {
     let mut differ = differs("words of a state", "library", &format!("{STATE_WORDS}\n"), &format!("{}\n", state_words()));
     differ += fixed_runs(&o);
     differ += o.misses.as_ref().map_or(0, fixed_misses);
+    differ += [&o.vectors, &o.misses].into_iter().flatten().map(changed).sum::<u64>();
     match compare_words(100_000, o.seed) {
         Ok(n) => println!("model: {n} entry words unpacked and packed, 0 differ"),
         Err(error) => {

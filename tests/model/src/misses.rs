@@ -3,6 +3,7 @@
 //! - `zero` or `other`, a length, and entries as byte:tag and word: the table that is lent from there on;
 //! - `word`, an index and a value: a word of the state is set, which the ledger does not follow;
 //! - `serve`, strand and side: then the line `part number other start length` of hand back, and the serve's answer.
+use crate::changes::is_record;
 use crate::command::{decode, width};
 use crate::ledger::Ledger;
 use crate::library;
@@ -57,7 +58,7 @@ fn input(line: &str) -> Option<Input> {
 
 pub fn read(text: &str) -> Vec<Vector> {
     let mut all: Vec<Vector> = Vec::new();
-    for line in text.lines().filter(|l| !l.is_empty()) {
+    for line in text.lines().filter(|l| !l.is_empty() && !is_record(l)) {
         if let Some(name) = line.strip_prefix("# ") {
             all.push(Vector { name: name.to_string(), lines: Vec::new() });
             continue;

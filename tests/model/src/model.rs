@@ -30,6 +30,9 @@ pub enum Event {
     Inserted(Choice),
     /// a lookup found this entry
     Found(Entry),
+    /// and the access ended in a physical address
+    Translated { fetch: bool, real: bool, code: u8 },
+    Bypassed { fetch: bool, io: bool },
     /// a table of the right length was looked at; whether the one not looked at has the length that its own N asks for
     Looked { other: bool, unused_right: bool },
     /// the TSB entry fails by this alone
@@ -85,7 +88,8 @@ pub const CHOICES: [Choice; 6] = [
 #[derive(Clone, Copy, Debug, PartialEq)]
 pub enum Answer {
     Done { count: u64 },
-    Physical { attributes: u8, address: u64 },
+    /// the size code of the page, 15 where there is none
+    Physical { attributes: u8, code: u8, address: u64 },
     Trap { number: u8, fault: u8, address: u64, tag: u64 },
     Read { first: u64, second: u64 },
     Displaced { entry: Entry },
@@ -463,7 +467,9 @@ impl Model {
         }
         if mode == 2 {
             let attributes = if bit(a.address, 39) { 2 } else { 1 };
-            return Answer::Physical { attributes, address: a.address % (1 << 40) };
+            let code = if broken::is(Broken::BypassCode0) { 0 } else { 15 };
+            self.events.push(Event::Bypassed { fetch, io: bit(a.address, 39) });
+            return Answer::Physical { attributes, code, address: a.address % (1 << 40) };
         }
         if !in_range(a.address) {
             return self.trap(a, if fetch { 0x08 } else { 0x30 }, 0x20);
@@ -475,6 +481,7 @@ impl Model {
         let entry = self.sides[a.side][slot].as_mut().expect("a live entry was found");
         entry.used = true;
         let word = entry.word;
+        let real = entry.real;
         self.events.push(Event::Found(*entry));
         let fault = fault_type(word, mode, a.kind);
         if fault != 0 {
@@ -486,7 +493,9 @@ impl Model {
         let attributes = bit(word, 10) as u8 + 2 * bit(word, 11) as u8 + 4 * bit(word, 12) as u8;
         let size = size_of(word);
         let start = if broken::is(Broken::UnroundedAddress) { word_address(word) } else { round_down(word_address(word), size) };
-        Answer::Physical { attributes, address: start + a.address % size }
+        let code = (word & 15) as u8;
+        self.events.push(Event::Translated { fetch, real, code });
+        Answer::Physical { attributes, code: broken::code(code), address: start + a.address % size }
     }
 
     fn find(&self, a: &Access, partition: u64, real: bool) -> Option<usize> {
@@ -805,7 +814,7 @@ pub fn run(words: &mut [u64], input: &[u8], output: &mut [u8]) -> (Report, Vec<E
 pub fn answer_bytes(answer: &Answer) -> [u8; ANSWER_BYTES] {
     let (kind, a, b, c, first, second) = match *answer {
         Answer::Done { count } => (0, 0, 0, 0, count, 0),
-        Answer::Physical { attributes, address } => (1, attributes, 0, 0, address, 0),
+        Answer::Physical { attributes, code, address } => (1, attributes, 0, code, address, 0),
         Answer::Trap { number, fault, address, tag } => (2, number, fault, 0, address, tag),
         Answer::Read { first, second } => (3, 0, 0, 0, first, second),
         Answer::Displaced { entry: e } => (4, 0, e.partition as u8, e.real as u8, e.page + e.context, e.word),

@@ -1,4 +1,5 @@
 //! The hand-checked vectors and document 01's printed run, as the stream program takes and prints them.
+use crate::changes::is_record;
 use crate::command::{decode, width};
 use crate::ledger::Ledger;
 use crate::library;
@@ -26,7 +27,7 @@ pub fn hex(bytes: &[u8]) -> String {
 /// A line `# name`, a line `in` with the input in hexadecimal, the answers, and the line `end ..`.
 pub fn read(text: &str) -> Vec<Vector> {
     let mut all: Vec<Vector> = Vec::new();
-    for line in text.lines().filter(|l| !l.is_empty()) {
+    for line in text.lines().filter(|l| !l.is_empty() && !is_record(l)) {
         if let Some(name) = line.strip_prefix("# ") {
             all.push(Vector { name: name.to_string(), input: Vec::new(), output: String::new() });
             continue;

@@ -32,20 +32,14 @@ returns-2 c =
 returns-3 : tie.Need-returns-3
 unfolding judge
 returns-3 c =
-    let bit = c .before .before in
-    let two = bit .before .before .before in
-    let one = two .before .before in
+    let one = c .before .before in
     let fault = one .before in (
       rw (
         ← (fault .before .read-register .ensures),
         ← (fault .fault-of .ensures .0),
         eq-eqb _ _ (one .if1 .left),
-        ← (two .before .is-write-denied .ensures),
-        two .if2 .left,
-        bit .before .physical-address .ensures,
-        bit .bit-of .ensures,
-        c .before .bit-of2 .ensures,
-        c .bit-of3 .ensures,
+        ← (c .before .is-write-denied .ensures),
+        c .if2 .left,
       ),
       tt,
     )
@@ -60,12 +54,4 @@ judge-word-spec =
     returns
     (λ c κs. search needs)
     returns-2
-    (λ c κs. search needs)
-    (λ c κs. search needs)
-    (λ c κs. search needs)
-    (λ c. search needs)
-    (λ c. search needs)
-    (λ c κs. search needs)
-    (λ c. search needs)
-    (λ c. search needs)
     returns-3)

@@ -3,8 +3,9 @@ use mathlib.Core.Path.{_≡_, sym, _∙_}
 use native.Mathlib.Omega.{arith}
 use borrow.Author.Needs.{needs}
 use Rattle.laws.proofs.Walks.{found-at}
-use Rattle.machine.specs.Slots.{noSlot, answersTo, search as lookup}
+use Rattle.machine.specs.Slots.{noSlot, answersTo, search as searchFor, lookup}
 use Rattle.machine.specs.State.{counts, State, stateIn, sideOf}
+use Rattle.machine.proofs.Matches.{found-holds}
 use Rattle.machine.proofs.State.{sound-registers}
 use Rattle.state.proofs.Lent.{side-slots}
 use Rattle.access.proofs.look_up.Statement.{statement}
@@ -13,7 +14,7 @@ use Rattle.access.proofs.look_up.Tie as tie
 -- what the search of the access's side found
 found : (c : tie.After-search-hinted)
     → (let s = c .before .before .before .before in
-    lookup (s .args .key) (sideOf (stateIn (s .args .state .now)) (s .args .a .side)) ≡ c .search-hinted .result)
+    searchFor (s .args .key) (sideOf (stateIn (s .args .state .now)) (s .args .a .side)) ≡ c .search-hinted .result)
 found c = sym (c .search-hinted .ensures)
 
 settle-hit-requires : tie.Need-settle-hit-requires
@@ -23,8 +24,14 @@ settle-hit-requires c κs =
     let s = look .before .before .before .before in
     let u : State = stateIn (s .args .state .now) in
     let side = s .args .a .side in
-    let i = found-at noSlot (answersTo (s .args .key)) (sideOf u side) _ (found look ∙ at .found .given .1) .0 in
-    (s .pre .0, s .pre .1, omega (arith, i, side-slots (s .args .state .now) (s .pre .0) side), sound-registers counts u (s .pre .2))
+    let e = found look ∙ at .found .given .1 in
+    let i = found-at noSlot (answersTo (s .args .key)) (sideOf u side) _ e .0 in (
+      s .pre .0,
+      s .pre .1,
+      omega (arith, i, side-slots (s .args .state .now) (s .pre .0) side),
+      sound-registers counts u (s .pre .2),
+      found-holds (s .args .key) (sideOf u side) _ e,
+    )
 
 settle-miss-requires : tie.Need-settle-miss-requires
 settle-miss-requires c κs =
@@ -33,12 +40,14 @@ settle-miss-requires c κs =
     (s .pre .0, s .pre .1, sound-registers counts _ (s .pre .2))
 
 returns : tie.Need-returns
+unfolding lookup
 returns c =
     let call = c .before .before in
     let at = call .before .before .before in
     rw (found (at .before .before) ∙ at .found .given .1) (call .settle-hit .ensures)
 
 returns-2 : tie.Need-returns-2
+unfolding lookup
 returns-2 c =
     let call = c .before .before in
     let at = call .before .before in

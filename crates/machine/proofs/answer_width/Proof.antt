@@ -14,6 +14,7 @@ use Rattle.machine.proofs.Format.{decodes}
 use Rattle.machine.proofs.Frame.{framed}
 use Rattle.machine.proofs.Printed.{printed-run}
 use Rattle.machine.proofs.Searches.{searches}
+use Rattle.machine.proofs.Extent.{extent}
 use Rattle.machine.proofs.answer_width.Statement.{statement}
 use Rattle.machine.proofs.answer_width.Tie as tie
 
@@ -27,7 +28,7 @@ kept = record {
 returns : tie.Need-returns
 returns c = (
   (refl, answer-length),
-  (told, (sold, (readable, (demand1, (demand2, (demand3, (described, (kept, (framed, (searches, (decodes, (starred, printed-run)))))))))))),
+  (told, (sold, (readable, (demand1, (demand2, (demand3, (described, (kept, (framed, (searches, (extent, (decodes, (starred, printed-run))))))))))))),
 )
 
 pub answer-width-spec : {M : Type 1} → statement M
