@@ -168,7 +168,8 @@ static void print_answer(const uint8_t *at)
         printf("done\n");
         break;
     case T1MMU_PHYSICAL:
-        printf("physical 0x%" PRIx64 " (cp %d, e %d, ie %d)\n", first, !!(at[1] & T1MMU_CP), !!(at[1] & T1MMU_E), !!(at[1] & T1MMU_IE));
+        printf("physical 0x%" PRIx64 " (%s, cp %d, e %d, ie %d)\n", first, at[3] == T1MMU_BYPASS_CODE ? "a bypass" : pages[at[3]],
+               !!(at[1] & T1MMU_CP), !!(at[1] & T1MMU_E), !!(at[1] & T1MMU_IE));
         break;
     case T1MMU_TRAP:
         printf("trap 0x%02x %s at 0x%" PRIx64, at[1], trap_name(at[1]), first);
