@@ -44,7 +44,7 @@ unfolding wordInsertable
 insertable-sound w h = h
 
 -- no address in the page leaves the word's block of 2^40, whatever the word
-pub physical-block : (w : ℕ) (address : VirtualAddress) → physicalAt w address .0 / 2 ^ 40 ≡ bits 40 16 w
+physical-block : (w : ℕ) (address : VirtualAddress) → physicalAt w address .0 / 2 ^ 40 ≡ bits 40 16 w
 unfolding frame physicalBy
 physical-block w address =
     let k : ℕ = pageShift (w % 2 ^ 4) in

@@ -267,7 +267,7 @@ unfoldable pub firstFit : List (Bool × Written) → Written → Written
 firstFit [] last = last
 firstFit (s ∷ ss) last = cond (s .0) (s .1) (firstFit ss last)
 
--- steps 1 to 4: whether the access ends before the lookup. A bypass has 15 where a hit has a size code
+-- steps 1 to 4: whether the access ends before the lookup. A bypass has 15 where a hit has a size code (document 02, U3)
 unfoldable pub earlySteps : Ledger → Asked → List (Bool × Written)
 earlySteps l a =
     let mode : ℕ = l .registers (a .strand) 3 in

@@ -76,7 +76,7 @@ pub fn page_start(code: u64, address: u64) -> u64
     address - page_offset(code, address)
 }
 
-pub fn page_offset(code: u64, address: u64) -> u64
+fn page_offset(code: u64, address: u64) -> u64
     ensures { λ r. ⌜ r ≡ pageOffset code address ⌝ }
 {
     address & page_mask(code)
