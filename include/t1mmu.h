@@ -131,7 +131,7 @@ enum t1mmu_page { T1MMU_8K = 0, T1MMU_64K = 1, T1MMU_4M = 3, T1MMU_256M = 5 };
 
 enum t1mmu_answer {
     T1MMU_DONE = 0,      /* first value, for 0x03 to 0x05: the count of entries removed */
-    T1MMU_PHYSICAL = 1,  /* a: T1MMU_CP + T1MMU_E + T1MMU_IE of the page; c: enum t1mmu_page, or T1MMU_BYPASS_CODE; first value: the physical address */
+    T1MMU_PHYSICAL = 1,  /* a: T1MMU_CP + T1MMU_E + T1MMU_IE; c: enum t1mmu_page, or T1MMU_BYPASS_CODE; first value: the physical address */
     T1MMU_TRAP = 2,      /* a: enum t1mmu_trap; b: fault type; first value: the address as it was used; second: tag access as the trap left it */
     T1MMU_VALUE = 3,     /* first value: the register; or both values: the pointers of ps0 and ps1 */
     T1MMU_DISPLACED = 4, /* b: its partition; c: 1 if it is real; first value: its page and context, as in tag access; second: its word */
@@ -143,9 +143,9 @@ enum t1mmu_attribute { T1MMU_CP = 1, T1MMU_E = 2, T1MMU_IE = 4 };
 
 /*
  * For a cache above the unit: a physical answer with a size code holds for its whole page. Until it is dropped, an access of the same strand,
- * kind and selector to an aligned address in the T1MMU_PAGE_BYTES(c) around the one asked for would get the same a and c, and the physical
- * address at its own offset. (specs: Extent) Drop it at any insertion, serve, demap or invalidation on its side, by any strand, and at any
- * write of registers 0 to 5 of its strand; docs/PAPER.md shows one. Used bits do not see what such a cache answers.
+ * kind and selector, of any allowed size, to an aligned address in the T1MMU_PAGE_BYTES(c) around the one asked for would get the same a and c,
+ * and the physical address at its own offset. (specs: Extent) Drop it at any insertion, serve, demap or invalidation on its side, by any
+ * strand, and at any write of registers 0 to 5 of its strand: docs/PAPER.md, section 9. Used bits do not see what such a cache answers.
  */
 
 enum t1mmu_trap {
