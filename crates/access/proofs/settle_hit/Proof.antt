@@ -32,7 +32,8 @@ matched c =
 
 -- what the found entry's word says
 verdict : (c : tie.After-judge-word)
-    → (let s = c .before .before .before .before .before .before .before in
+    → (let found = c .before .before .before .before in
+    let s = found .before .before .before in
     judge (stateIn (s .args .state .now) .registers) (s .args .a) (slot s .word) ≡ c .judge-word .result)
 verdict c =
     let found = c .before .before .before .before in
