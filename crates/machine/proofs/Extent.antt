@@ -1,7 +1,7 @@
 -- How far a translation reaches, and how long it lasts. Assumes nothing.
 use Prim.Native.Nat.{ℕ, _+_, _*_, _-_, _/_, _%_, _^_, _<_}
 use mathlib.Core.Path.{_≡_, refl, ap, sym, _∙_}
-use mathlib.Core.Bool.{Bool, true, false, not, cond, _&&_, _||_}
+use mathlib.Core.Bool.{Bool, true, false, not, _&&_, _||_}
 use mathlib.Core.List.{List, [], _∷_, _++_}
 use mathlib.Core.Option.{Option, none, some}
 use native.Mathlib.Omega.{arith}
@@ -23,7 +23,7 @@ use Rattle.machine.specs.Questions.{kindSide, keyOf}
 use Rattle.machine.specs.Stream.{Bytes}
 use Rattle.machine.specs.Ledger.{Entry, Ledger, Name, Written, writes, withEntries, codeBytes, pageBytes, bit, addressGood, reaches, overlap}
 use Rattle.machine.specs.Ledger.{unlocked, bigEndian, line, valueFrom, isNamed, isOf, isAt, translationOn, contextPicked, Asked, askedSide}
-use Rattle.machine.specs.Ledger.{faults, plainTrap, taggedTrap, firstFit, earlySteps, foundBy, misses, hits, lookedUp, accesses, pointers}
+use Rattle.machine.specs.Ledger.{faults, faultsOf, plainTrap, taggedTrap, firstFit, earlySteps, foundBy, misses, hits, lookedUp, accesses, pointers}
 use Rattle.machine.specs.Ledger.{firstNo, insertionQuestions, questions, lacksSlot, displaces, inserts, does, enters, entersInsertion, serves}
 use Rattle.machine.specs.Ledger.{Miss, refused, absent, present, miss}
 use Rattle.machine.specs.Places.{Reference}
@@ -160,14 +160,7 @@ unfolding line
 line-value kind a b c v w h =
     ap (λ (s : Bytes). valueFrom 0 (take 8 (s ++ bigEndian 8 w))) (sym (bytes-big-endian v)) ∙ rw bytes-big-endian (value-back v h)
 
--- the fault type of a word and the physical address that it gives, as `hits` has them
-abbrev faultOf : ℕ → ℕ → ℕ → ℕ
-faultOf mode kind word =
-    cond (eqb mode 0) (bit 8 word) 0
-    + cond (eqb kind 4) (2 * bit 11 word) 0
-    + cond (eqb kind 3) (4 * (1 - bit 10 word)) 0
-    + cond (eqb kind 4) 0 (0x10 * bit 62 word)
-
+-- whether a word denies a write, its attributes, and the physical address that it gives, as `hits` has them
 abbrev denied : ℕ → ℕ → Bool
 denied kind word = eqb (bit 6 word) 0 && (eqb kind 2 || eqb kind 3)
 
@@ -203,12 +196,12 @@ module _ (l : Ledger) (q : Asked) (attributes code address : ℕ) where
 
   -- an entry that answers so takes neither of its traps, and its word gives the bytes
   hit-told : (e : Entry) → address < 2 ^ 64 → wordSound (e .word) ≡ true → hits l q e .bytes ≡ told
-      → (not (eqb (faultOf (l .registers (q .strand) 3) (q .kind) (e .word)) 0) ≡ false) × (denied (q .kind) (e .word) ≡ false)
+      → (not (eqb (faultsOf (l .registers (q .strand) 3) (q .kind) (e .word)) 0) ≡ false) × (denied (q .kind) (e .word) ≡ false)
       × (attributesIn (e .word) ≡ attributes) × (e .word % 16 ≡ code) × (physicalIn (e .word) (q .used) ≡ address)
   unfolding hits anyOf line
   hit-told e small w h =
       let word : ℕ = e .word in
-      let fault : ℕ = faultOf (l .registers (q .strand) 3) (q .kind) word in
+      let fault : ℕ = faultsOf (l .registers (q .strand) 3) (q .kind) word in
       let (past, t) = fit-last told _ _ (no-trap _ fault, (no-trap 0x6C 0, tt)) h in
       let value : Bytes → ℕ = λ b. valueFrom 0 (take 8 (drop 8 b)) in
       let gives = line-value 1 (attributesIn word) 0 (word % 16) (physicalIn word (q .used)) 0 (physical-small word (q .used) w) in (
@@ -265,7 +258,7 @@ module _ {n : Counts} {u : State} {l : Ledger} (h : Alike n u l) (q : Asked) (s 
       good : wordSound (e .word) ≡ true
       good = let (x, t, live, is) = found-slot e f in rw is (live-parts x t live .word)
 
-      gives : (not (eqb (faultOf (l .registers (q .strand) 3) (q .kind) (e .word)) 0) ≡ false) × (denied (q .kind) (e .word) ≡ false)
+      gives : (not (eqb (faultsOf (l .registers (q .strand) 3) (q .kind) (e .word)) 0) ≡ false) × (denied (q .kind) (e .word) ≡ false)
           × (attributesIn (e .word) ≡ attributes) × (e .word % 16 ≡ code) × (physicalIn (e .word) (q .used) ≡ address)
       gives = hit-told l q attributes code address e small good b
 

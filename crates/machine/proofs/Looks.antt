@@ -30,7 +30,7 @@ use Rattle.machine.specs.declared.Prepared.the-variants as prepared
 use Rattle.machine.specs.Stream.{answerBytes}
 use Rattle.machine.specs.Ledger.{Entry, Ledger, writes, pageBytes, bit, contextPicked, tagOf, line, Written}
 use Rattle.machine.specs.Ledger.{answers, Asked, usedAddress, translationOn, askedSide, faults, taggedTrap}
-use Rattle.machine.specs.Ledger.{firstFit, earlySteps, misses, hits}
+use Rattle.machine.specs.Ledger.{firstFit, earlySteps, misses, faultsOf, hits}
 use Rattle.machine.specs.declared.VirtualAddress.{VirtualAddress}
 use Rattle.machine.specs.declared.Translation.{Translation}
 use Rattle.machine.specs.declared.Answer.the-variants as answer
@@ -96,11 +96,7 @@ bit-clear : (x : ℕ) → x < 2 → 1 - x ≡ tick (eqb x 0)
 bit-clear x h = by-test (eqb x 0) (λ e. rw e (omega (arith, eqb-true x 0 e))) (λ e. rw e (omega (arith, eqb-false x 0 e)))
 
 -- the two sums
-pub fault-alike : (mode kind word : ℕ) → faultType mode kind word
-    ≡ cond (eqb mode 0) (bit 8 word) 0
-    + cond (eqb kind 4) (2 * bit 11 word) 0
-    + cond (eqb kind 3) (4 * (1 - bit 10 word)) 0
-    + cond (eqb kind 4) 0 (0x10 * bit 62 word)
+pub fault-alike : (mode kind word : ℕ) → faultType mode kind word ≡ faultsOf mode kind word
 unfolding faultType
 fault-alike mode kind word =
     let set : (k : ℕ) → bit k word ≡ tick (eqb (bit k word) 1) = λ k. bit-set (bit k word) (omega arith) in

@@ -292,16 +292,20 @@ misses l a =
     (cond (eqb (a .kind) 0) (cond (translationOn l a) 0x64 0x3E) (cond (translationOn l a) 0x68 0x3F))
     0
 
+-- step 6: the fault types that a word earns an access, in one sum
+abbrev pub faultsOf : ℕ → ℕ → ℕ → ℕ
+faultsOf mode kind word =
+    cond (eqb mode 0) (bit 8 word) 0
+    + cond (eqb kind 4) (2 * bit 11 word) 0
+    + cond (eqb kind 3) (4 * (1 - bit 10 word)) 0
+    + cond (eqb kind 4) 0 (0x10 * bit 62 word)
+
 -- steps 6 to 8 on the entry found; a physical address comes with the entry's size code (document 02, U3)
 unfoldable pub hits : Ledger → Asked → Entry → Written
 hits l a e =
     let word : ℕ = e .word in
     let address : ℕ = word / 2 ^ 13 % 2 ^ 43 * 2 ^ 13 in
-    let type : ℕ =
-    cond (eqb (l .registers (a .strand) 3) 0) (bit 8 word) 0
-    + cond (eqb (a .kind) 4) (2 * bit 11 word) 0
-    + cond (eqb (a .kind) 3) (4 * (1 - bit 10 word)) 0
-    + cond (eqb (a .kind) 4) 0 (0x10 * bit 62 word) in
+    let type : ℕ = faultsOf (l .registers (a .strand) 3) (a .kind) word in
     firstFit
     ((not (eqb type 0), taggedTrap l a (cond (eqb (a .kind) 0) 0x08 0x30) type)
     ∷ (eqb (bit 6 word) 0 && (eqb (a .kind) 2 || eqb (a .kind) 3), taggedTrap l a 0x6C 0)
