@@ -103,7 +103,12 @@ static void translate(struct unit *u, u64 *r, unsigned kind, unsigned selector, 
     if (r[5] && r[3] != 2) address &= 0xFFFFFFFF;
     if (address & ((1u << size) - 1)) { trap(r, side, context, false, 0x34, 0, address, out); return; }
     if (r[3] == 0 && side && selector == 2) { trap(r, side, context, false, 0x37, 0, address, out); return; }
-    if (r[3] == 2) { answer(out, 1, address >> 39 & 1 ? 2 : 1, 0, 15, address & ((1ull << 40) - 1), 0); return; }
+    if (r[3] == 2) {
+        bool io = address >> 39 & 1;
+        if (io && kind >= 3) trap(r, side, 0, true, bad, kind == 4 ? 2 : 4, address, out);
+        else answer(out, 1, io ? 2 : 1, 0, 15, address & ((1ull << 40) - 1), 0);
+        return;
+    }
     if (!in_range(address)) { trap(r, side, context, true, bad, 0x20, address, out); return; }
     bool real = !(r[4] >> side & 1);
     struct slot *s = find(u->sides[side], r[0], real, context, address);

@@ -35,7 +35,7 @@ extern "C" {
 
 /* ---- sizes ---- */
 
-#define T1MMU_VERSION 0x010200u /* 1.2.0: major * 65536 + minor * 256 + patch */
+#define T1MMU_VERSION 0x020000u /* 2.0.0: major * 65536 + minor * 256 + patch */
 #define T1MMU_STATE_WORDS 640   /* the strands' register cells, then the slots of side 0, then those of side 1 */
 #define T1MMU_ANSWER_BYTES 24
 #define T1MMU_STRANDS 4
@@ -109,6 +109,11 @@ enum t1mmu_register {
 #define T1MMU_TSB_BASE_OF(side, nonzero, ps) (T1MMU_TSB_BASE + 4 * (side) + 2 * (nonzero) + (ps))
 #define T1MMU_TSB_CONFIGURATION_OF(side, nonzero) (T1MMU_TSB_CONFIGURATION + 2 * (side) + (nonzero))
 
+/*
+ * In T1MMU_HYPERPRIVILEGED an access is a bypass: it is not translated, and its physical address is the address modulo 2^40. Where bit 39 is
+ * set that is I/O space, which takes no nonfaulting load and no atomic access: they get T1MMU_DATA_ACCESS_EXCEPTION, with context 0 in tag
+ * access.
+ */
 enum t1mmu_mode { T1MMU_USER = 0, T1MMU_PRIVILEGED = 1, T1MMU_HYPERPRIVILEGED = 2 };
 
 enum t1mmu_translation { T1MMU_FETCH_ON = 1, T1MMU_DATA_ON = 2 };
@@ -163,8 +168,8 @@ enum t1mmu_trap {
 /* The fault type of an access exception: a sum of the first four, or the last alone. Other traps have 0. */
 enum t1mmu_fault {
     T1MMU_FAULT_PRIVILEGED = 0x01,     /* a page with p 1 in mode 0 */
-    T1MMU_FAULT_SIDE_EFFECT = 0x02,    /* a nonfaulting load of a page with e 1 */
-    T1MMU_FAULT_UNCACHEABLE = 0x04,    /* an atomic access to a page with cp 0 */
+    T1MMU_FAULT_SIDE_EFFECT = 0x02,    /* a nonfaulting load of a page with e 1, or in mode 2 of I/O space */
+    T1MMU_FAULT_UNCACHEABLE = 0x04,    /* an atomic access to a page with cp 0, or in mode 2 to I/O space */
     T1MMU_FAULT_NONFAULTING_ONLY = 0x10, /* a page with nfo 1, and no nonfaulting load */
     T1MMU_FAULT_OUT_OF_RANGE = 0x20    /* an address from 2^47 to 2^64 - 2^47 - 1 */
 };

@@ -195,7 +195,12 @@ impl Unit {
         } else if r[3] == 0 && side == 1 && selector == 2 {
             trap(r, &c, false, 0x37, 0, out);
         } else if r[3] == 2 {
-            answer(out, [1, if address >> 39 & 1 == 1 { 2 } else { 1 }, 0, 15], address & ((1 << 40) - 1), 0);
+            let io = address >> 39 & 1 == 1;
+            if io && kind >= 3 {
+                trap(r, &Cause { context: 0, ..c }, true, bad, if kind == 4 { 0x02 } else { 0x04 }, out);
+            } else {
+                answer(out, [1, if io { 2 } else { 1 }, 0, 15], address & ((1 << 40) - 1), 0);
+            }
         } else if !in_range(address) {
             trap(r, &c, true, bad, 0x20, out);
         } else {

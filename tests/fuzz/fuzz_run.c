@@ -215,11 +215,17 @@ static int known_code(unsigned c)
     return c == T1MMU_8K || c == T1MMU_64K || c == T1MMU_4M || c == T1MMU_256M || c == T1MMU_BYPASS_CODE;
 }
 
-static void judge_answer(unsigned command, const uint8_t *a)
+/* Whether I/O space takes an access, by its kind. */
+static int io_takes(const uint8_t *access) { return access[2] != T1MMU_ATOMIC && access[2] != T1MMU_NONFAULTING_LOAD; }
+
+static void judge_answer(const uint8_t *sent, const uint8_t *a)
 {
+    unsigned command = sent[0];
     HOLDS(a[0] <= 5 && a[4] == 0 && a[5] == 0 && a[6] == 0 && a[7] == 0);
     if (a[0] == T1MMU_PHYSICAL)
         HOLDS(command == T1MMU_ACCESS && a[8] == 0 && a[9] == 0 && a[10] == 0 && a[1] < 8 && a[2] == 0 && known_code(a[3]));
+    if (a[0] == T1MMU_PHYSICAL && a[3] == T1MMU_BYPASS_CODE)
+        HOLDS(a[11] >> 7 == 0 ? a[1] == T1MMU_CP : a[1] == T1MMU_E && io_takes(sent));
     if (a[0] == T1MMU_TRAP)
         HOLDS(command == T1MMU_ACCESS && known_trap(a[1]) && a[3] == 0);
     if (a[0] == T1MMU_VALUE)
@@ -251,7 +257,7 @@ static void judge_answers(size_t answered, size_t taken)
     size_t at = 0;
     for (size_t i = 0; i < answered; i++) {
         HOLDS(at < input.length && known_command(input.bytes[at]));
-        judge_answer(input.bytes[at], output.bytes + i * T1MMU_ANSWER_BYTES);
+        judge_answer(input.bytes + at, output.bytes + i * T1MMU_ANSWER_BYTES);
         at += width[input.bytes[at]];
     }
     HOLDS(at == taken);

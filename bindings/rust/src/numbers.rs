@@ -11,7 +11,7 @@ macro_rules! numbers {
 
 numbers! {
     /// The version that this crate is written for: major * 65536 + minor * 256 + patch.
-    VERSION: u32 = 0x01_02_00;
+    VERSION: u32 = 0x02_00_00;
     /// The words of a state.
     STATE_WORDS: usize = 640;
     /// The bytes of an answer.
@@ -101,6 +101,7 @@ numbers! {
     // Values of the mode.
     USER: u64 = 0;
     PRIVILEGED: u64 = 1;
+    /// Accesses bypass translation. I/O space, where bit 39 of the address is set, takes no nonfaulting load and no atomic access.
     HYPERPRIVILEGED: u64 = 2;
 
     // Bits of the translation register.
@@ -143,9 +144,9 @@ numbers! {
 
     /// Fault type: a page with p 1 in mode 0.
     FAULT_PRIVILEGED: u8 = 0x01;
-    /// Fault type: a nonfaulting load of a page with e 1.
+    /// Fault type: a nonfaulting load of a page with e 1, or in mode 2 of I/O space.
     FAULT_SIDE_EFFECT: u8 = 0x02;
-    /// Fault type: an atomic access to a page with cp 0.
+    /// Fault type: an atomic access to a page with cp 0, or in mode 2 to I/O space.
     FAULT_UNCACHEABLE: u8 = 0x04;
     /// Fault type: a page with nfo 1, and no nonfaulting load.
     FAULT_NONFAULTING_ONLY: u8 = 0x10;

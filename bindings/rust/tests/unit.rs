@@ -206,6 +206,29 @@ fn a_physical_answer_tells_its_page() {
 }
 
 #[test]
+fn io_space_takes_no_nonfaulting_load_and_no_atomic() {
+    const ADDRESS: u64 = 0x80_0040_2008;
+    let answer = |first: [u8; 4], tag: u64| [&first[..], &[0; 4], &ADDRESS.to_be_bytes(), &tag.to_be_bytes()].concat();
+    let trap = |fault: u8| answer([numbers::TRAP, numbers::DATA_ACCESS_EXCEPTION, fault, 0], 0x80_0040_2000);
+    let bypass = answer([numbers::PHYSICAL, numbers::E, 0, numbers::BYPASS_CODE as u8], 0);
+    let write = |register: u8, value: u64| [&[numbers::WRITE, 0, register][..], &value.to_be_bytes()].concat();
+    let registers = [write(numbers::TRANSLATION, numbers::DATA_ON), write(numbers::PRIMARY_CONTEXT, 5)].concat();
+    let cases = [
+        (numbers::LOAD, bypass.clone()),
+        (numbers::STORE, bypass),
+        (numbers::ATOMIC, trap(numbers::FAULT_UNCACHEABLE)),
+        (numbers::NONFAULTING_LOAD, trap(numbers::FAULT_SIDE_EFFECT)),
+    ];
+    for (kind, expected) in cases {
+        let mut unit = Unit::reset();
+        unit.run(&registers, &mut [0; 2 * ANSWER_BYTES]);
+        let mut output = [0; ANSWER_BYTES];
+        unit.run(&[&[numbers::ACCESS, 0, kind, numbers::PRIMARY, 3][..], &ADDRESS.to_be_bytes()].concat(), &mut output);
+        assert_eq!(output[..], expected, "kind {kind}");
+    }
+}
+
+#[test]
 fn a_clone_is_another_core() {
     let unit = Unit::reset();
     let mut other = unit.clone();

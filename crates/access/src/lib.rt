@@ -10,7 +10,7 @@ ghost use Rattle.machine.specs.Slots.{noSlot, KeyFits, keyAddress, holds, miss,
 ghost use Rattle.machine.specs.Registers.{withRegister, translates};
 ghost use Rattle.machine.specs.State.{stateIn, encode, sideOf, withRegisters};
 ghost use Rattle.state.specs.Calls.{Lent, SoundIn, Did};
-ghost use Rattle.machine.specs.Access.{addressUsed, accessOf, exception, trapTag, bypassTo, lookupKey, prepare};
+ghost use Rattle.machine.specs.Access.{addressUsed, accessOf, exception, trapTag, bypassTo, prepareBypass, lookupKey, prepare};
 ghost use Rattle.machine.specs.Access.{missTrap, faultType, judge, translatedBy, trapFault, trapRegisters, trapTo};
 ghost use Rattle.machine.specs.Access.{settleLooked, settle, accessTo};
 ghost use Rattle.machine.specs.declared.Prepared.the-variants.{Lookup};
@@ -116,6 +116,21 @@ fn bypass_translation(used: VirtualAddress) -> Translation
     }
 }
 
+// Step 3: I/O space, where bit 39 is 1, takes no nonfaulting load and no atomic. Their traps leave context 0 in tag access.
+fn prepare_bypass(kind: u8, used: VirtualAddress) -> Prepared
+    ensures prepared { λ r. ⌜ r ≡ prepareBypass kind used ⌝ }
+    ensures fits { λ r. ⌜ PreparedFits r ⌝ }
+{
+    if bit_of(used.0, 39) == 0 {
+        return Prepared::Bypass(bypass_translation(used));
+    }
+    match kind {
+        4 => Prepared::Stopped(Trap::DataAccessException(0x02), Tag::Written(0)),
+        3 => Prepared::Stopped(Trap::DataAccessException(0x04), Tag::Written(0)),
+        _ => Prepared::Bypass(bypass_translation(used)),
+    }
+}
+
 fn key_of_access(state: &[u64], a: Access) -> Key
     requires { ⌜ Lent (now state) × AccessFits a × RegistersFit (now state) ⌝ }
     ensures key { λ r. ⌜ r ≡ lookupKey (stateIn (now (state .entry)) .registers) a ⌝ }
@@ -157,7 +172,7 @@ fn prepare_access(state: &[u64], a: Access) -> Prepared
         return Prepared::Stopped(Trap::PrivilegedAction, Tag::Kept);
     }
     if mode == machine::HYPERPRIVILEGED {
-        return Prepared::Bypass(bypass_translation(a.used));
+        return prepare_bypass(a.kind, a.used);
     }
     if !pages::in_range(a.used.0) {
         return Prepared::Stopped(exception_of(a.kind, 0x20), tag_written(state, a));

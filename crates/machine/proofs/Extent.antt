@@ -23,7 +23,7 @@ use Rattle.machine.specs.Questions.{kindSide, keyOf}
 use Rattle.machine.specs.Stream.{Bytes}
 use Rattle.machine.specs.Ledger.{Entry, Ledger, Name, Written, writes, withEntries, codeBytes, pageBytes, bit, addressGood, reaches, overlap}
 use Rattle.machine.specs.Ledger.{unlocked, bigEndian, line, valueFrom, isNamed, isOf, isAt, translationOn, contextPicked, Asked, askedSide}
-use Rattle.machine.specs.Ledger.{faults, faultsOf, plainTrap, taggedTrap, firstFit, earlySteps, foundBy, misses, hits, lookedUp, accesses, pointers}
+use Rattle.machine.specs.Ledger.{faults, faultsOf, plainTrap, trapWith, firstFit, earlySteps, foundBy, misses, hits, lookedUp, accesses, pointers}
 use Rattle.machine.specs.Ledger.{firstNo, insertionQuestions, questions, lacksSlot, displaces, inserts, does, enters, entersInsertion, serves}
 use Rattle.machine.specs.Ledger.{Miss, refused, absent, present, miss}
 use Rattle.machine.specs.Places.{Reference}
@@ -44,6 +44,8 @@ use Rattle.machine.proofs.Looks.{Each, fit-ind, fit-none, physical-alik
 use Rattle.machine.proofs.Words.{physical-below}
 use Rattle.machine.proofs.Commands.{looked, key-same, looked-one}
 use Rattle.machine.proofs.Good.{good-alike}
+
+ruleset disj = (or-left, or-right)
 
 ruleset conj = (and-left, and-right)
 
@@ -87,19 +89,20 @@ module _ (strand side : ℕ) (l : Ledger) where
       write-lasts (write-lasts same (a .strand) (22 + askedSide a) (a .used) (above (a .strand) (22 + askedSide a) (omega arith)))
       (a .strand) (24 + askedSide a) (number * 256 + type) (above (a .strand) (24 + askedSide a) (omega arith))
 
-  tagged-lasts : (a : Asked) (number type : ℕ) → Lasts (taggedTrap l a number type)
-  unfolding taggedTrap
-  tagged-lasts a number type = write-lasts (faults-last a number type) (a .strand) (20 + askedSide a) _ (above (a .strand) (20 + askedSide a) (omega arith))
+  tagged-lasts : (a : Asked) (context number type : ℕ) → Lasts (trapWith l a context number type)
+  unfolding trapWith
+  tagged-lasts a context number type = write-lasts (faults-last a number type) (a .strand) (20 + askedSide a) _ (above (a .strand) (20 + askedSide a) (omega arith))
 
   looked-lasts : (a : Asked) (o : Option Entry) → Lasts (lookedUp l a o)
   unfolding misses hits
-  looked-lasts a none = tagged-lasts a _ 0
-  looked-lasts a (some e) = fit-ind Lasts _ _ (tagged-lasts a _ _, (tagged-lasts a 0x6C 0, tt)) same
+  looked-lasts a none = tagged-lasts a _ _ 0
+  looked-lasts a (some e) = fit-ind Lasts _ _ (tagged-lasts a _ _ _, (tagged-lasts a _ 0x6C 0, tt)) same
 
   access-lasts : (a : Asked) → Lasts (accesses l a)
   unfolding accesses earlySteps
   access-lasts a =
-      fit-ind Lasts _ _ (faults-last a 0x34 0, (faults-last a 0x37 0, (same, (tagged-lasts a _ 0x20, tt))))
+      fit-ind Lasts _ _
+      (faults-last a 0x34 0, (faults-last a 0x37 0, (tagged-lasts a 0 0x30 0x02, (tagged-lasts a 0 0x30 0x04, (same, (tagged-lasts a _ _ 0x20, tt))))))
       (looked-lasts a (find (foundBy l a) (l .entries (askedSide a))))
 
   insert-lasts : (n k : ℕ) (e : Entry) (d : Name) → eqb k side ≡ false → Lasts (inserts n l k e d)
@@ -181,9 +184,9 @@ module _ (l : Ledger) (q : Asked) (attributes code address : ℕ) where
   told = line 1 attributes 0 code address 0
 
   -- no trap is a physical answer
-  no-trap : (number type : ℕ) → taggedTrap l q number type .bytes ≡ told → ⊥
-  unfolding taggedTrap line
-  no-trap number type e = let z : _≡_ {A = ℕ} 2 1 = ap (λ b. getD b 0 0) e in omega arith
+  no-trap : (context number type : ℕ) → trapWith l q context number type .bytes ≡ told → ⊥
+  unfolding trapWith line
+  no-trap context number type e = let z : _≡_ {A = ℕ} 2 1 = ap (λ b. getD b 0 0) e in omega arith
 
   no-plain : (number : ℕ) → plainTrap l q number .bytes ≡ told → ⊥
   unfolding line
@@ -192,7 +195,8 @@ module _ (l : Ledger) (q : Asked) (attributes code address : ℕ) where
   -- and a bypass has 15
   no-step : (code ≡ 15 → ⊥) → Each (λ w. w .bytes ≡ told → ⊥) (earlySteps l q)
   unfolding earlySteps line
-  no-step h = (no-plain 0x34, (no-plain 0x37, ((λ e. h (sym (ap (λ b. getD b 3 0) e))), (no-trap _ 0x20, tt))))
+  no-step h =
+      (no-plain 0x34, (no-plain 0x37, (no-trap 0 0x30 0x02, (no-trap 0 0x30 0x04, ((λ e. h (sym (ap (λ b. getD b 3 0) e))), (no-trap _ _ 0x20, tt))))))
 
   -- an entry that answers so takes neither of its traps, and its word gives the bytes
   hit-told : (e : Entry) → address < 2 ^ 64 → wordSound (e .word) ≡ true → hits l q e .bytes ≡ told
@@ -202,7 +206,7 @@ module _ (l : Ledger) (q : Asked) (attributes code address : ℕ) where
   hit-told e small w h =
       let word : ℕ = e .word in
       let fault : ℕ = faultsOf (l .registers (q .strand) 3) (q .kind) word in
-      let (past, t) = fit-last told _ _ (no-trap _ fault, (no-trap 0x6C 0, tt)) h in
+      let (past, t) = fit-last told _ _ (no-trap _ _ fault, (no-trap _ 0x6C 0, tt)) h in
       let value : Bytes → ℕ = λ b. valueFrom 0 (take 8 (drop 8 b)) in
       let gives = line-value 1 (attributesIn word) 0 (word % 16) (physicalIn word (q .used)) 0 (physical-small word (q .used) w) in (
         or-left _ _ past,
@@ -281,7 +285,8 @@ module _ {n : Counts} {u : State} {l : Ledger} (h : Alike n u l) (q : Asked) (s 
       unfolding earlySteps anyOf
       near-past =
           let rest = or-right (not (eqb (q .used % 2 ^ q .size) 0)) _ past in
-          rw (eq-eqb (used % 2 ^ size) 0 aligned, v .registers 3 (omega arith), in-range) rest
+          let translated : eqb (l .registers (q .strand) 3) 2 ≡ false = search disj in
+          rw (eq-eqb (used % 2 ^ size) 0 aligned, v .registers 3 (omega arith), translated, in-range) (rw translated at rest)
 
       stands : (foundBy l q e ≡ true) × Stands e m
       stands = rw f at (find-says (foundBy l q) m)
@@ -329,7 +334,7 @@ module _ {n : Counts} {u : State} {l : Ledger} (h : Alike n u l) (q : Asked) (s 
         go : (o : Option Entry) → find (foundBy l q) m ≡ o → anyOf (λ (t : Bool × Written). t .0) (earlySteps l q) ≡ false
             → lookedUp l q o .bytes ≡ line 1 attributes 0 code address 0
             → accesses after (near size used) .bytes ≡ line 1 attributes 0 code (address - q .used % codeBytes code + used % codeBytes code) 0
-        go none f past t = absurd (no-trap l q attributes code address _ 0 t)
+        go none f past t = absurd (no-trap l q attributes code address _ _ 0 t)
         go (some e) f past t =
             rw (
               fit-none (earlySteps after (near size used)) _ (near-past e f past t after v size used aligned page),

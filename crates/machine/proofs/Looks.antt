@@ -19,7 +19,7 @@ use Rattle.machine.specs.Registers.{withRegister, mode, translates, sele
 use Rattle.machine.specs.Registers as registers
 use Rattle.machine.specs.State.{Counts, State, withRegisters}
 use Rattle.machine.specs.Questions.{kindSide, keyOf}
-use Rattle.machine.specs.Access.{addressUsed, exception, trapTag, bypassTo, lookupKey, prepare, missTrap}
+use Rattle.machine.specs.Access.{addressUsed, exception, trapTag, bypassTo, prepareBypass, lookupKey, prepare, missTrap}
 use Rattle.machine.specs.Access.{faultType, judge, trapNumber, trapFault, trapRegisters, Stepped, trapTo}
 use Rattle.machine.specs.Access.{translatedBy, settleJudged, settleLooked, settle, accessTo}
 use Rattle.machine.specs.declared.Access.{Access}
@@ -29,7 +29,7 @@ use Rattle.machine.specs.declared.Prepared.{Prepared}
 use Rattle.machine.specs.declared.Prepared.the-variants as prepared
 use Rattle.machine.specs.Stream.{answerBytes}
 use Rattle.machine.specs.Ledger.{Entry, Ledger, writes, pageBytes, bit, contextPicked, tagOf, line, Written}
-use Rattle.machine.specs.Ledger.{answers, Asked, usedAddress, translationOn, askedSide, faults, taggedTrap}
+use Rattle.machine.specs.Ledger.{answers, Asked, usedAddress, translationOn, askedSide, faults, trapWith, taggedTrap}
 use Rattle.machine.specs.Ledger.{firstFit, earlySteps, misses, faultsOf, hits}
 use Rattle.machine.specs.declared.VirtualAddress.{VirtualAddress}
 use Rattle.machine.specs.declared.Translation.{Translation}
@@ -91,6 +91,9 @@ weigh-small false w = omega arith
 
 pub bit-set : (x : ℕ) → x < 2 → x ≡ tick (eqb x 1)
 bit-set x h = by-test (eqb x 1) (λ e. rw e (eqb-true x 1 e)) (λ e. rw e (omega (arith, eqb-false x 1 e)))
+
+bit-zero : (x : ℕ) → x < 2 → eqb x 0 ≡ not (eqb x 1)
+bit-zero x h = by-test (eqb x 1) (λ e. rw (eqb-true x 1 e)) (λ e. rw (e, eq-eqb x 0 (omega (arith, eqb-false x 1 e))))
 
 bit-clear : (x : ℕ) → x < 2 → 1 - x ≡ tick (eqb x 0)
 bit-clear x h = by-test (eqb x 0) (λ e. rw e (omega (arith, eqb-true x 0 e))) (λ e. rw e (omega (arith, eqb-false x 0 e)))
@@ -158,9 +161,37 @@ physical-told : (p : Translation) → p .attributes < 256 → p .code < 256
 unfolding answerBytes
 physical-told p h c = line-answer 1 (p .address .0) 0 h (omega arith) c
 
-bypass-small : (b : Bool) → cond b 1 2 < 256
+-- ---- step 3
+bypass-small : (b : Bool) → cond b 2 1 < 256
 bypass-small true = omega arith
 bypass-small false = omega arith
+
+-- the ledger's attributes by its own test of bit 39
+bypass-told : (a : VirtualAddress)
+    → answerBytes (answer.Physical (bypassTo a)) ≡ line 1 (cond (eqb (bit 39 (a .0)) 1) 2 1) 0 15 (a .0 % 0x100_0000_0000) 0
+bypass-told a =
+    let io : Bool = eqb (bit 39 (a .0)) 1 in
+    rw (bit-zero (bit 39 (a .0)) (omega arith), cond-not io 1 2) (physical-told _ (bypass-small io) (omega arith))
+
+-- the trap of an access that I/O space does not take
+abbrev io-trap : ℕ → Prepared
+io-trap fault = prepared.Stopped (trap.DataAccessException fault) (effect.Written 0)
+
+-- the unit's step is three of the ledger's
+three-steps : (hyper io four three : Bool) (p rest : Prepared)
+    → cond hyper (cond (not io) p (cond four (io-trap 0x02) (cond three (io-trap 0x04) p))) rest
+    ≡ cond (hyper && (io && four)) (io-trap 0x02) (cond (hyper && (io && three)) (io-trap 0x04) (cond hyper p rest))
+three-steps false io four three p rest = refl
+three-steps true false four three p rest = refl
+three-steps true true four three p rest = refl
+
+step-3 : (hyper : Bool) (kind : ℕ) (a : VirtualAddress) (rest : Prepared) → (let io : Bool = eqb (bit 39 (a .0)) 1 in
+    cond hyper (prepareBypass kind a) rest
+    ≡ cond (hyper && (io && eqb kind 4)) (io-trap 0x02)
+    (cond (hyper && (io && eqb kind 3)) (io-trap 0x04)
+    (cond hyper (prepared.Bypass (bypassTo a)) rest)))
+step-3 hyper kind a rest =
+    rw (bit-zero (bit 39 (a .0)) (omega arith)) (three-steps hyper (eqb (bit 39 (a .0)) 1) (eqb kind 4) (eqb kind 3) _ rest)
 
 -- an access of data has side 1
 data-side : (kind : ℕ) → eqb (kindSide kind) 1 ≡ not (eqb kind 0)
@@ -184,12 +215,10 @@ used-alike {u} k strand address s =
     )
 
 -- ---- an access of a known strand and selector
--- the ledger's trap, by what it does to tag access: its `plainTrap` at fault type 0, its `taggedTrap` at the context that it takes
+-- the ledger's trap, by what it does to tag access: its `plainTrap` at fault type 0, its `trapWith`
 abbrev pub trapOf : Ledger → Asked → ℕ → ℕ → Tag → Written
 trapOf l b number type effect.Kept = answers (faults l b number type) (line 2 number type 0 (b .used) (tagOf l (b .strand) (askedSide b)))
-trapOf l b number type (effect.Written context) =
-    let tag : ℕ = b .used - b .used % 8192 + context in
-    answers (writes (faults l b number type) (b .strand) (20 + askedSide b) tag) (line 2 number type 0 (b .used) tag)
+trapOf l b number type (effect.Written context) = trapWith l b context number type
 
 -- an access before the lookup: both go on to it, or both have ended alike and left the slots
 pub data Early (n : Counts) (u : State) (a : Access) (p : Prepared) (ss : List (Bool × Written)) : Type 0 where
@@ -251,7 +280,7 @@ module _ {n : Counts} {u : State} {l : Ledger} (k : Alike n u l) (q : Asked) (s 
       rw (← e, j .registers (a .strand) (20 + kindSide (a .kind)) s (omega arith)) (line-answer 2 (a .used .0) _ (number-small t) h (omega arith))
 
   pub trap-alike : (t : Trap) (tag : Tag) → trapFault t < 256 → StepAlike n (trapTo u a t tag) (trapOf l q (trapNumber t) (trapFault t) tag)
-  unfolding trapRegisters
+  unfolding trapRegisters trapWith
   trap-alike t tag h = by-tag tag
     where
       side : ℕ
@@ -280,7 +309,6 @@ module _ {n : Counts} {u : State} {l : Ledger} (k : Alike n u l) (q : Asked) (s 
   -- with tag access written by the selected context, or 0 where translation is off
   pub tagged-alike : (t : Trap) {number type : ℕ} → trapNumber t ≡ number → trapFault t ≡ type → type < 256
       → StepAlike n (trapTo u a t (trapTag (u .registers) a)) (taggedTrap l q number type)
-  unfolding taggedTrap
   tagged-alike t e f h = rw (← e, ← f, ← translates-alike, ← selected-alike) (trap-alike t (trapTag (u .registers) a) (rw f h))
 
   -- ---- before the lookup
@@ -299,14 +327,19 @@ module _ {n : Counts} {u : State} {l : Ledger} (k : Alike n u l) (q : Asked) (s 
       let nucleus : Bool = eqb (mode (u .registers) (a .strand)) 0 && (not (eqb (a .kind) 0) && eqb (a .selector) 2) in
       let data-nucleus : (eqb (l .registers (a .strand) 3) 0 && (eqb (kindSide (a .kind)) 1 && eqb (a .selector) 2)) ≡ nucleus =
       rw (m, data-side (a .kind)) in
-      early-next _ (prepared.Stopped trap.AddressNotAligned effect.Kept) refl (refl, refl) (trap-alike trap.AddressNotAligned effect.Kept (omega arith))
+      let hyper : Bool = eqb (mode (u .registers) (a .strand)) 2 in
+      let io : Bool = eqb (bit 39 (q .used)) 1 in
+      let stops : (kind : ℕ) → (eqb (l .registers (a .strand) 3) 2 && (io && eqb (a .kind) kind)) ≡ (hyper && (io && eqb (a .kind) kind)) = λ kind. rw m in
+      rw (step-3 hyper (a .kind) (a .used))
+      (early-next _ (prepared.Stopped trap.AddressNotAligned effect.Kept) refl (refl, refl) (trap-alike trap.AddressNotAligned effect.Kept (omega arith))
       (early-next nucleus (prepared.Stopped trap.PrivilegedAction effect.Kept) data-nucleus (refl, refl)
       (trap-alike trap.PrivilegedAction effect.Kept (omega arith))
-      (early-next _ (prepared.Bypass (bypassTo (a .used))) (ap (λ x. eqb x 2) m) (refl, refl)
-      (record { bytes = physical-told (bypassTo (a .used)) (bypass-small (eqb (bits 39 1 (a .used .0)) 0)) (omega arith); alike = k })
+      (early-next _ (io-trap 0x02) (stops 4) (refl, refl) (trap-alike (trap.DataAccessException 0x02) (effect.Written 0) (omega arith))
+      (early-next _ (io-trap 0x04) (stops 3) (refl, refl) (trap-alike (trap.DataAccessException 0x04) (effect.Written 0) (omega arith))
+      (early-next _ (prepared.Bypass (bypassTo (a .used))) (ap (λ x. eqb x 2) m) (refl, refl) (record { bytes = bypass-told (a .used); alike = k })
       (early-next _ (prepared.Stopped (exception (a .kind) 0x20) (trapTag (u .registers) a)) (ap not (address-good (a .used .0))) (refl, refl)
       (tagged-alike (exception (a .kind) 0x20) (exception-number (a .kind) 0x20) (exception-fault (a .kind) 0x20) (omega arith))
-      (looks refl refl))))
+      (looks refl refl)))))))
 
   -- an access is as its lookup is
   pub access-alike : (last : Written) → StepAlike n (settle u a (prepared.Lookup (lookupKey (u .registers) a))) last
@@ -322,7 +355,7 @@ module _ {n : Counts} {u : State} {l : Ledger} (k : Alike n u l) (q : Asked) (s 
   unfolding misses
   miss-alike =
       let m = miss-trap (translates (u .registers) (a .strand) (kindSide (a .kind))) (eqb (a .kind) 0) in
-      rw (← translates-alike) (tagged-alike (missTrap (u .registers) a) (m .0) (m .1) (omega arith))
+      tagged-alike (missTrap (u .registers) a) (rw (← translates-alike) (m .0)) (m .1) (omega arith)
 
   -- what the word of a found entry says
   pub hit-alike : (e : Entry) {word : ℕ} → e .word ≡ word → wordSound word ≡ true
@@ -349,7 +382,7 @@ abbrev isMiss : List ℕ → Bool
 isMiss bytes = leb 0x3E (getD bytes 1 0) && leb (getD bytes 1 0) 0x68
 
 miss-code : (l : Ledger) (b : Asked) → isMiss (misses l b .bytes) ≡ true
-unfolding misses taggedTrap line
+unfolding misses trapWith line
 miss-code l b = numbers (translationOn l b) (eqb (b .kind) 0)
   where
     numbers : (on fetch : Bool) → (let x : ℕ = cond fetch (cond on 0x64 0x3E) (cond on 0x68 0x3F) in leb 0x3E x && leb x 0x68) ≡ true
@@ -359,7 +392,7 @@ miss-code l b = numbers (translationOn l b) (eqb (b .kind) 0)
     numbers false false = refl
 
 hit-code : (l : Ledger) (b : Asked) (e : Entry) → isMiss (hits l b e .bytes) ≡ false
-unfolding hits taggedTrap line
+unfolding hits trapWith line
 hit-code l b e =
     fit-ind (λ w. isMiss (w .bytes) ≡ false) _ _
     (by-test (eqb (b .kind) 0) (λ t. rw t) (λ t. rw t), (refl, tt))

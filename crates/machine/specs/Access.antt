@@ -57,6 +57,15 @@ trapTag file a = effect.Written (cond (translates file (a .strand) (a .side)) (s
 abbrev pub bypassTo : VirtualAddress → Translation
 bypassTo a = record { address = bypassed a; attributes = cond (eqb (bits 39 1 (a .0)) 0) 1 2; code = 15 }
 
+-- and as document 02's U4 amends it: I/O space, where bit 39 is 1, takes no nonfaulting load and no atomic. Their traps leave context 0 in tag access,
+-- whatever is selected and also while translation is on
+abbrev pub prepareBypass : ℕ → VirtualAddress → Prepared
+prepareBypass kind a =
+    cond (eqb (bits 39 1 (a .0)) 0) (prepared.Bypass (bypassTo a))
+    (cond (eqb kind 4) (prepared.Stopped (trap.DataAccessException 0x02) (effect.Written 0))
+    (cond (eqb kind 3) (prepared.Stopped (trap.DataAccessException 0x04) (effect.Written 0))
+    (prepared.Bypass (bypassTo a))))
+
 -- step 5: with translation off the key is real, and asks for no context
 abbrev pub lookupKey : List ℕ → Access → Key
 lookupKey file a =
@@ -69,7 +78,7 @@ prepare file a =
     -- 2. a user asks for data of the nucleus
     (cond (eqb (mode file (a .strand)) 0 && (not (eqb (a .kind) 0) && eqb (a .selector) 2)) (prepared.Stopped trap.PrivilegedAction effect.Kept)
     -- 3. mode 2 does not translate
-    (cond (eqb (mode file (a .strand)) 2) (prepared.Bypass (bypassTo (a .used)))
+    (cond (eqb (mode file (a .strand)) 2) (prepareBypass (a .kind) (a .used))
     -- 4. an address out of range has fault type 0x20
     (cond (not (inRange (a .used .0))) (prepared.Stopped (exception (a .kind) 0x20) (trapTag file a))
     -- 5. all others look up

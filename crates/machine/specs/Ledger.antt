@@ -256,24 +256,32 @@ faults l a number type = writes (writes l (a .strand) (22 + askedSide a) (a .use
 abbrev pub plainTrap : Ledger → Asked → ℕ → Written
 plainTrap l a number = answers (faults l a number 0) (line 2 number 0 0 (a .used) (tagOf l (a .strand) (askedSide a)))
 
--- a trap that writes tag access: the address used, and as context the one picked, or 0 while translation is off
-unfoldable pub taggedTrap : Ledger → Asked → ℕ → ℕ → Written
-taggedTrap l a number type =
-    let tag : ℕ = a .used - a .used % 8192 + cond (translationOn l a) (contextPicked l (a .strand) (a .selector)) 0 in
+-- a trap that writes tag access: the address used, and a context
+unfoldable pub trapWith : Ledger → Asked → ℕ → ℕ → ℕ → Written
+trapWith l a context number type =
+    let tag : ℕ = a .used - a .used % 8192 + context in
     answers (writes (faults l a number type) (a .strand) (20 + askedSide a) tag) (line 2 number type 0 (a .used) tag)
+
+-- of most the context is the one picked, or 0 while translation is off
+abbrev pub taggedTrap : Ledger → Asked → ℕ → ℕ → Written
+taggedTrap l a = trapWith l a (cond (translationOn l a) (contextPicked l (a .strand) (a .selector)) 0)
 
 -- the steps in order: the first whose condition holds
 unfoldable pub firstFit : List (Bool × Written) → Written → Written
 firstFit [] last = last
 firstFit (s ∷ ss) last = cond (s .0) (s .1) (firstFit ss last)
 
--- steps 1 to 4: whether the access ends before the lookup. A bypass has 15 where a hit has a size code (document 02, U3)
+-- steps 1 to 4: whether the access ends before the lookup. In mode 2 I/O space takes no nonfaulting load and no atomic, by a trap that has context 0
+-- whatever the registers say (document 02, U4); a bypass has 15 where a hit has a size code (U3)
 unfoldable pub earlySteps : Ledger → Asked → List (Bool × Written)
 earlySteps l a =
     let mode : ℕ = l .registers (a .strand) 3 in
+    let io : Bool = eqb (bit 39 (a .used)) 1 in
     (not (eqb (a .used % 2 ^ a .size) 0), plainTrap l a 0x34)
     ∷ (eqb mode 0 && (eqb (askedSide a) 1 && eqb (a .selector) 2), plainTrap l a 0x37)
-    ∷ (eqb mode 2, answers l (line 1 (cond (eqb (bit 39 (a .used)) 0) 1 2) 0 15 (a .used % 0x100_0000_0000) 0))
+    ∷ (eqb mode 2 && (io && eqb (a .kind) 4), trapWith l a 0 0x30 0x02)
+    ∷ (eqb mode 2 && (io && eqb (a .kind) 3), trapWith l a 0 0x30 0x04)
+    ∷ (eqb mode 2, answers l (line 1 (cond io 2 1) 0 15 (a .used % 0x100_0000_0000) 0))
     ∷ (not (addressGood (a .used)), taggedTrap l a (cond (eqb (a .kind) 0) 0x08 0x30) 0x20)
     ∷ []
 

@@ -8,4 +8,4 @@ versionNumber major minor patch = major * 65536 + minor * 256 + patch
 
 -- 1.2.0: document 01, and U1 to U3 of document 02
 abbrev pub version : ℕ
-version = versionNumber 1 2 0
+version = versionNumber 2 0 0

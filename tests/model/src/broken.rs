@@ -27,6 +27,20 @@ pub enum Broken {
     MaskInMode2,
     /// a dirty empty slot passes as sound
     DirtyEmptySlots,
+    /// a trap of a bypass into I/O space leaves the selected context in tag access
+    IoSelectedContext,
+    /// or leaves tag access as it was
+    IoTagKept,
+    /// its fault types are swapped
+    IoKindsSwapped,
+    /// bit 40 stands for bit 39
+    IoBit40,
+    /// mode 1 has it, too
+    IoInMode1,
+    /// it comes before step 1
+    IoBeforeAlignment,
+    /// I/O space takes no stores either
+    IoStopsStores,
     /// a bypass says size code 0
     BypassCode0,
     /// a hit has no size code
@@ -93,6 +107,13 @@ const NAMES: &[(&str, Broken)] = &[
     ("refuse-despite-overlap", Broken::RefuseDespiteOverlap),
     ("mask-in-mode-2", Broken::MaskInMode2),
     ("dirty-empty-slots", Broken::DirtyEmptySlots),
+    ("io-selected-context", Broken::IoSelectedContext),
+    ("io-tag-kept", Broken::IoTagKept),
+    ("io-kinds-swapped", Broken::IoKindsSwapped),
+    ("io-bit-40", Broken::IoBit40),
+    ("io-in-mode-1", Broken::IoInMode1),
+    ("io-before-alignment", Broken::IoBeforeAlignment),
+    ("io-stops-stores", Broken::IoStopsStores),
     ("bypass-code-0", Broken::BypassCode0),
     ("hit-code-0", Broken::HitCode0),
     ("hit-code-15", Broken::HitCode15),

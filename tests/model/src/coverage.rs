@@ -10,9 +10,13 @@ pub struct Coverage {
     refusals: [[u64; 14]; 10],
     traps: Vec<u64>,
     attributes: [u64; 8],
-    /// physical answers: of lookups by fetch, realness and size code; of bypasses by fetch and I/O space
+    /// physical answers: of lookups by fetch, realness and size code; of bypasses by kind and I/O space
     translated: [[[u64; 6]; 2]; 2],
-    bypassed: [[u64; 2]; 2],
+    bypassed: [[u64; 2]; 5],
+    /// bypasses that I/O space does not take, atomic or nonfaulting: by translation and by whether a context other than 0 is selected
+    io_faults: [[[u64; 2]; 2]; 2],
+    /// and by whether a bit above 39 is set
+    io_above: [[u64; 2]; 2],
     /// by command code: removals of none, one, several
     removed: [[u64; 3]; 10],
     stops: [u64; 5],
@@ -84,7 +88,9 @@ impl Default for Coverage {
             traps: vec![0; 65536],
             attributes: [0; 8],
             translated: [[[0; 6]; 2]; 2],
-            bypassed: [[0; 2]; 2],
+            bypassed: [[0; 2]; 5],
+            io_faults: [[[0; 2]; 2]; 2],
+            io_above: [[0; 2]; 2],
             removed: [[0; 3]; 10],
             stops: [0; 5],
             choices: [0; 6],
@@ -124,7 +130,7 @@ impl Serves {
                 self.free_bits += *free_bits as u64;
             }
             Event::Served(entry) => self.entries.push(*entry),
-            Event::Found(_) | Event::Translated { .. } | Event::Bypassed { .. } => unreachable!("of a run"),
+            Event::Found(_) | Event::Translated { .. } | Event::Bypassed { .. } | Event::IoFault { .. } => unreachable!("of a run"),
         }
     }
 
@@ -175,7 +181,12 @@ impl Coverage {
                     self.serves.found(entry);
                 }
                 Event::Translated { fetch, real, code } => self.translated[*fetch as usize][*real as usize][*code as usize] += 1,
-                Event::Bypassed { fetch, io } => self.bypassed[*fetch as usize][*io as usize] += 1,
+                Event::Bypassed { kind, io } => self.bypassed[*kind as usize][*io as usize] += 1,
+                Event::IoFault { kind, translating, context, above } => {
+                    let kind = (*kind == 4) as usize;
+                    self.io_faults[kind][*translating as usize][*context as usize] += 1;
+                    self.io_above[kind][*above as usize] += 1;
+                }
                 _ => unreachable!("of a serve"),
             }
         }
@@ -223,6 +234,7 @@ impl Coverage {
         }
         (0..8).for_each(|a| all.push((format!("physical a = {a}"), self.attributes[a])));
         self.physical_items(&mut all);
+        self.io_items(&mut all);
         for code in 3..6 {
             for (n, many) in ["none", "one", "several"].iter().enumerate() {
                 if (code, n) != (3, 2) {
@@ -247,8 +259,25 @@ impl Coverage {
             for (real, name) in ["virtual", "real"].iter().enumerate() {
                 [0, 1, 3, 5].iter().for_each(|&code: &usize| all.push((format!("{by} physical, {name}, c = {code}"), self.translated[fetch][real][code])));
             }
-            for (io, space) in ["memory", "I/O space"].iter().enumerate() {
-                all.push((format!("{by} bypass into {space}"), self.bypassed[fetch][io]));
+        }
+        for (kind, [memory, io]) in self.bypassed.iter().enumerate() {
+            all.push((format!("bypass of kind {kind} into memory"), *memory));
+            // of the others none goes there
+            if kind < 3 {
+                all.push((format!("bypass of kind {kind} into I/O space"), *io));
+            }
+        }
+    }
+
+    fn io_items(&self, all: &mut Vec<(String, u64)>) {
+        for (kind, name) in ["atomic", "nonfaulting load"].iter().enumerate() {
+            for (on, translation) in ["off", "on"].iter().enumerate() {
+                for (context, selected) in ["zero", "not zero"].iter().enumerate() {
+                    all.push((format!("{name} at I/O space, translation {translation}, context {selected}"), self.io_faults[kind][on][context]));
+                }
+            }
+            for (above, bits) in ["zero", "not zero"].iter().enumerate() {
+                all.push((format!("{name} at I/O space, bits 63:40 {bits}"), self.io_above[kind][above]));
             }
         }
     }

@@ -239,6 +239,11 @@ impl Ledger {
         }
         if r[3] == 2 {
             let io = address >> 39 & 1 == 1;
+            if io && kind > 2 {
+                // no nonfaulting load and no atomic; the tag has context 0 here, whatever is selected
+                let fault = if kind == 3 { 0x04 } else { 0x02 };
+                return self.trap(strand, side, 0x30, fault, address, Some(address >> 13 << 13));
+            }
             return bytes([1, if io { 2 } else { 1 }, 0, 15], address % (1 << 40), 0);
         }
         if !reachable(address) {

@@ -32,7 +32,9 @@ pub enum Event {
     Found(Entry),
     /// and the access ended in a physical address
     Translated { fetch: bool, real: bool, code: u8 },
-    Bypassed { fetch: bool, io: bool },
+    Bypassed { kind: u8, io: bool },
+    /// a bypass that I/O space does not take; whether translation is on, the selected context is not 0, and a bit above 39 is set
+    IoFault { kind: u8, translating: bool, context: bool, above: bool },
     /// a table of the right length was looked at; whether the one not looked at has the length that its own N asks for
     Looked { other: bool, unused_right: bool },
     /// the TSB entry fails by this alone
@@ -459,16 +461,21 @@ impl Model {
     fn translate(&mut self, a: &Access) -> Answer {
         let registers = self.registers[a.strand as usize];
         let (mode, fetch) = (registers[3], a.kind == 0);
-        if a.address % (1 << a.size) != 0 {
+        let stopped = io_fault(a).filter(|_| mode == 2 || mode == 1 && broken::is(Broken::IoInMode1));
+        let aligned = a.address % (1 << a.size) == 0 || stopped.is_some() && broken::is(Broken::IoBeforeAlignment);
+        if !aligned {
             return self.trap_keeping_tag(a, 0x34);
         }
         if mode == 0 && !fetch && a.nucleus {
             return self.trap_keeping_tag(a, 0x37);
         }
+        if let Some(fault) = stopped {
+            return self.io_trap(a, fault);
+        }
         if mode == 2 {
             let attributes = if bit(a.address, 39) { 2 } else { 1 };
             let code = if broken::is(Broken::BypassCode0) { 0 } else { 15 };
-            self.events.push(Event::Bypassed { fetch, io: bit(a.address, 39) });
+            self.events.push(Event::Bypassed { kind: a.kind, io: bit(a.address, 39) });
             return Answer::Physical { attributes, code, address: a.address % (1 << 40) };
         }
         if !in_range(a.address) {
@@ -521,9 +528,23 @@ impl Model {
 
     /// A trap that writes tag access; without translation it has no context ("Access", last paragraph).
     fn trap(&mut self, a: &Access, number: u8, fault: u8) -> Answer {
-        let registers = &mut self.registers[a.strand as usize];
-        let context = if bit(registers[4], a.side as u32) { a.context } else { 0 };
-        registers[20 + a.side] = round_down(a.address, 1 << 13) | context;
+        let translating = bit(self.registers[a.strand as usize][4], a.side as u32);
+        self.trap_with_tag(a, number, fault, if translating { a.context } else { 0 })
+    }
+
+    /// Document 02, U4: of a bypass, so that no context is meant, translation on or off.
+    fn io_trap(&mut self, a: &Access, fault: u8) -> Answer {
+        let translating = bit(self.registers[a.strand as usize][4], a.side as u32);
+        self.events.push(Event::IoFault { kind: a.kind, translating, context: a.context != 0, above: a.address >> 40 != 0 });
+        match (broken::is(Broken::IoSelectedContext), broken::is(Broken::IoTagKept)) {
+            (true, _) => self.trap(a, 0x30, fault),
+            (_, true) => self.record(a, 0x30, fault),
+            _ => self.trap_with_tag(a, 0x30, fault, 0),
+        }
+    }
+
+    fn trap_with_tag(&mut self, a: &Access, number: u8, fault: u8, context: u64) -> Answer {
+        self.registers[a.strand as usize][20 + a.side] = round_down(a.address, 1 << 13) | context;
         self.record(a, number, fault)
     }
 
@@ -537,6 +558,18 @@ impl Model {
         registers[22 + a.side] = a.address;
         registers[24 + a.side] = number as u64 * 256 + fault as u64;
         Answer::Trap { number, fault, address: a.address, tag: registers[20 + a.side] }
+    }
+}
+
+/// Step 3 as document 02's U4 amends it: the fault type of a bypass, where it has one.
+fn io_fault(a: &Access) -> Option<u8> {
+    let io = bit(a.address, if broken::is(Broken::IoBit40) { 40 } else { 39 });
+    match a.kind {
+        _ if !io => None,
+        4 => Some(if broken::is(Broken::IoKindsSwapped) { 0x04 } else { 0x02 }),
+        3 => Some(if broken::is(Broken::IoKindsSwapped) { 0x02 } else { 0x04 }),
+        2 if broken::is(Broken::IoStopsStores) => Some(0x04),
+        _ => None,
     }
 }
 

@@ -1,6 +1,6 @@
 //! Cases taken one after the other instead of at random: every operand byte, every register with values at its bounds, every
-//! attribute of a word in every mode, every state that is one bit away from a full one, every pair of page sizes side by side, every TSB
-//! entry that is one bit away from one that fits.
+//! attribute of a word in every mode, bypasses at the ends of I/O space, every state that is one bit away from a full one, every pair of
+//! page sizes side by side, every TSB entry that is one bit away from one that fits.
 use crate::command::{encode, width, Command};
 use crate::compare::{Step, Stream};
 use crate::generate::Run;
@@ -8,7 +8,7 @@ use crate::model::{Entry, Model};
 use crate::states::Start;
 use crate::tables::{place_of, tag_for, Miss, Table, TsbEntry};
 use t1mmu::numbers::{tsb_base_of, tsb_bytes, tsb_configuration_of};
-use t1mmu::numbers::{ADDRESS_MASK, MODE, PRIMARY_CONTEXT, SECONDARY_CONTEXT, TAG_ACCESS, TRANSLATION};
+use t1mmu::numbers::{ADDRESS_MASK, FAULT_ADDRESS, FAULT_STATUS, MODE, PRIMARY_CONTEXT, SECONDARY_CONTEXT, TAG_ACCESS, TRANSLATION};
 use t1mmu::numbers::{ANSWER_BYTES, SLOTS, STATE_WORDS};
 
 const PAGE: u64 = 0x4000_0000;
@@ -139,6 +139,30 @@ fn accesses(commands: &mut Vec<Command>, kind: u8, selector: u8, size: u8) {
     }
 }
 
+/// In one mode, translation and mask every kind, selector and size at the ends of I/O space and off alignment, and every bit of an address
+/// alone and alone missing; after each of them the data side's tag access, fault registers and pointers.
+fn bypasses(mode: u64, translation: u64, mask: u64) -> Stream {
+    let write = |register, value| Command::Write { strand: 3, register, value };
+    let mut commands = vec![write(TRANSLATION, translation), write(ADDRESS_MASK, mask), write(PRIMARY_CONTEXT, 5), write(SECONDARY_CONTEXT, 6)];
+    // a table of its own for context zero
+    commands.extend((0..4).map(|n| write(tsb_base_of(1, n > 1, n % 2), 0x1_0000_0000 << n)));
+    commands.push(write(MODE, mode));
+    let below = [0x7F_FFFF_FFF8, 0x100_0000_0000, 0xFFFF_FF7F_FFFF_FFF8];
+    let inside = [0x80_0000_0000, 0xFF_FFFF_FFF8, 0x180_0000_0010, 0xFFFF_FFFF_FFFF_FFF8, 0x80_0000_000F];
+    let mut add = |kind, selector, size, address| {
+        commands.push(Command::Access { strand: 3, kind, selector, size, address });
+        commands.extend([TAG_ACCESS + 1, FAULT_ADDRESS + 1, FAULT_STATUS + 1].map(|register| Command::Read { strand: 3, register }));
+        commands.push(Command::Pointers { strand: 3, side: 1 });
+    };
+    for kind in 0..5 {
+        for selector in 0..3 {
+            (0..4).for_each(|size| below.into_iter().chain(inside).for_each(|address| add(kind, selector, size, address)));
+        }
+        (0..64).for_each(|b| [1 << b, !(1u64 << b)].into_iter().for_each(|address| add(kind, 0, if kind == 0 { 2 } else { 0 }, address)));
+    }
+    from_reset(10 + 8 * mode + 2 * translation + mask, commands)
+}
+
 /// Two entries of one owner, or of two, for each pair of sizes, the second at and around the ends of the first.
 fn neighbours() -> Vec<Stream> {
     let sizes = [(0, 13), (1, 16), (3, 22), (5, 28)];
@@ -258,7 +282,8 @@ fn tsb_operands() -> Stream {
 }
 
 pub fn all() -> impl Iterator<Item = Stream> {
-    let modes = (0..3).flat_map(|mode| (0..4).flat_map(move |translation| (0..2).map(move |mask| attributes(mode, translation, mask))));
+    let each = || (0..3).flat_map(|mode| (0..4).flat_map(move |translation| (0..2).map(move |mask| (mode, translation, mask))));
+    let modes = each().flat_map(|(mode, translation, mask)| [attributes(mode, translation, mask), bypasses(mode, translation, mask)]);
     let lengths = (0..=2 * STATE_WORDS + 120).filter(|n| *n != STATE_WORDS).map(|n| from_words(6, Start::WrongLength, vec![0; n]));
     let misses = tsb_bits().chain(tsb_lengths()).chain([tsb_operands()]);
     [registers(), operands()].into_iter().chain(codes()).chain(modes).chain(neighbours()).chain(flips()).chain(lengths).chain(misses)

@@ -39,9 +39,9 @@ returns-3 c =
         ← (two .before .is-user-nucleus .ensures),
         two .if2 .left,
         eq-eqb _ _ (c .before .if3 .taken),
-        c .bypass-translation .ensures,
+        c .prepare-bypass .ensures .0,
       ),
-      tt,
+      c .prepare-bypass .ensures .1,
     )
 
 returns-4 : tie.Need-returns-4
