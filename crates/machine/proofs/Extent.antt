@@ -91,7 +91,8 @@ module _ (strand side : ℕ) (l : Ledger) where
 
   tagged-lasts : (a : Asked) (context number type : ℕ) → Lasts (trapWith l a context number type)
   unfolding trapWith
-  tagged-lasts a context number type = write-lasts (faults-last a number type) (a .strand) (20 + askedSide a) _ (above (a .strand) (20 + askedSide a) (omega arith))
+  tagged-lasts a context number type =
+      write-lasts (faults-last a number type) (a .strand) (20 + askedSide a) _ (above (a .strand) (20 + askedSide a) (omega arith))
 
   looked-lasts : (a : Asked) (o : Option Entry) → Lasts (lookedUp l a o)
   unfolding misses hits
