@@ -93,7 +93,7 @@ fn exception_of(kind: u8, fault: u64) -> Trap
     Trap::DataAccessException(fault)
 }
 
-// The context that a trap leaves in tag access: the one selected; 0 while translation is off.
+// The context that a trap of steps 4 to 7 leaves in tag access: the one selected; 0 while translation is off.
 fn tag_written(state: &[u64], a: Access) -> Tag
     requires { ⌜ Lent (now state) × AccessFits a × RegistersFit (now state) ⌝ }
     ensures tag { λ r. ⌜ r ≡ trapTag (stateIn (now (state .entry)) .registers) a ⌝ }

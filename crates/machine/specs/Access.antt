@@ -49,7 +49,7 @@ accessOf file strand kind selector size address = record {
 abbrev pub exception : ℕ → ℕ → Trap
 exception kind fault = cond (eqb kind 0) (trap.InstructionAccessException fault) (trap.DataAccessException fault)
 
--- the context that a trap leaves in tag access ("Access", last paragraph): the one selected; 0 while translation is off
+-- the context that a trap of steps 4 to 7 leaves in tag access ("Access", last paragraph): the one selected; 0 while translation is off
 abbrev pub trapTag : List ℕ → Access → Tag
 trapTag file a = effect.Written (cond (translates file (a .strand) (a .side)) (selected file (a .strand) (a .selector)) 0)
 
