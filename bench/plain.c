@@ -9,7 +9,7 @@
 typedef uint64_t u64;
 
 /* Sizes, widths and the library's words are those of its header; all else is this unit's own. */
-enum { SLOTS = T1MMU_SLOTS };
+enum { SLOTS = T1MMU_SLOTS, KEPT = T1MMU_KEPT_LOOKUPS };
 
 struct slot {
     u64 page, word;
@@ -18,9 +18,16 @@ struct slot {
     bool real, locked, used;
 };
 
+/* A ring of outcomes: whether lookup n missed is bit n modulo KEPT. From 2 * KEPT the count goes to KEPT + 1. */
+struct record {
+    u64 missed[KEPT / 64];
+    unsigned seen;
+};
+
 struct unit {
     u64 registers[T1MMU_STRANDS][T1MMU_CELLS];
     struct slot sides[T1MMU_SIDES][SLOTS];
+    struct record records[T1MMU_STRANDS][T1MMU_SIDES];
 };
 
 static const uint8_t shifts[16] = {13, 16, 0, 22, 0, 28};
@@ -61,10 +68,21 @@ static bool side_sound(const struct slot *side) {
     return true;
 }
 
+/* No bit is set that has had no lookup. */
+static bool record_sound(const struct record *r) {
+    for (unsigned i = 0; i < KEPT / 64; i++) {
+        unsigned had = r->seen < 64 * i ? 0 : r->seen - 64 * i;
+        if (had < 64 && r->missed[i] >> had) return false;
+    }
+    return r->seen <= 2 * KEPT;
+}
+
 static bool sound(const struct unit *u) {
-    for (int s = 0; s < T1MMU_STRANDS; s++)
+    for (int s = 0; s < T1MMU_STRANDS; s++) {
         for (int n = 0; n < T1MMU_CELLS; n++)
             if (!value_allowed(n, u->registers[s][n])) return false;
+        if (!record_sound(&u->records[s][0]) || !record_sound(&u->records[s][1])) return false;
+    }
     return side_sound(u->sides[0]) && side_sound(u->sides[1]);
 }
 
@@ -97,7 +115,25 @@ static struct slot *find(struct slot *side, u64 partition, bool real, u64 contex
     return NULL;
 }
 
-static void translate(struct unit *u, u64 *r, unsigned kind, unsigned selector, unsigned size, u64 address, uint8_t *out) {
+static inline void note(struct record *r, u64 missed) {
+    unsigned at = r->seen % KEPT;
+    u64 *word = &r->missed[at / 64];
+    *word = (*word & ~(1ull << at % 64)) | missed << at % 64;
+    r->seen = r->seen == 2 * KEPT ? KEPT + 1 : r->seen + 1;
+}
+
+static inline unsigned kept(const struct record *r) { return r->seen < KEPT ? r->seen : KEPT; }
+
+static unsigned rate(const struct record *r, uint8_t *out) {
+    u64 misses = 0;
+    if (r->seen == 0) return 15;
+    for (int i = 0; i < KEPT / 64; i++) misses += __builtin_popcountll(r->missed[i]);
+    answer(out, 3, 0, 0, 0, misses * 1000 / kept(r), 0);
+    return 0;
+}
+
+static void translate(struct unit *u, unsigned strand, unsigned kind, unsigned selector, unsigned size, u64 address, uint8_t *out) {
+    u64 *r = u->registers[strand];
     unsigned side = kind != 0, bad = side ? 0x30 : 0x08;
     u64 context = selected(r, selector);
     if (r[5] && r[3] != 2) address &= 0xFFFFFFFF;
@@ -112,6 +148,7 @@ static void translate(struct unit *u, u64 *r, unsigned kind, unsigned selector, 
     if (!in_range(address)) { trap(r, side, context, true, bad, 0x20, address, out); return; }
     bool real = !(r[4] >> side & 1);
     struct slot *s = find(u->sides[side], r[0], real, context, address);
+    note(&u->records[strand][side], !s);
     if (!s) { trap(r, side, context, true, real ? 0x3E + side : side ? 0x68 : 0x64, 0, address, out); return; }
     s->used = true;
     u64 w = s->word;
@@ -236,20 +273,21 @@ static unsigned act(struct unit *u, const uint8_t *b, uint8_t *out) {
         if (x > 4) return 6;
         if (b[3] > 2 || (x == 0 && (b[3] == 1 || (b[3] == 2 && r[3] == 0)))) return 7;
         if (b[4] > 3 || (x == 0 && b[4] != 2)) return 8;
-        translate(u, r, x, b[3], b[4], take8(b + 5), out);
+        translate(u, b[1], x, b[3], b[4], take8(b + 5), out);
         return 0;
     case 8:
         if (x > 25 || x == 6 || x == 7) return 9;
         answer(out, 3, 0, 0, 0, r[x], 0);
         return 0;
     case 9: return pointers(r, x, out);
+    case 10: return x > 1 ? 6 : rate(&u->records[b[1]][x], out);
     default: return demap(u, r, b, out);
     }
 }
 
 /* The state is taken to be sound. */
 static struct t1mmu_report run_unchecked(struct unit *u, const uint8_t *input, size_t length, uint8_t *output, size_t room) {
-    static const uint8_t widths[10] = {
+    static const uint8_t widths[11] = {
         [T1MMU_WRITE] = T1MMU_WRITE_BYTES,
         [T1MMU_INSERT] = T1MMU_INSERT_BYTES,
         [T1MMU_DEMAP_PAGE] = T1MMU_DEMAP_PAGE_BYTES,
@@ -259,11 +297,12 @@ static struct t1mmu_report run_unchecked(struct unit *u, const uint8_t *input, s
         [T1MMU_ACCESS] = T1MMU_ACCESS_BYTES,
         [T1MMU_READ] = T1MMU_READ_BYTES,
         [T1MMU_POINTERS] = T1MMU_POINTERS_BYTES,
+        [T1MMU_RATE] = T1MMU_RATE_BYTES,
     };
     struct t1mmu_report r = {0, 0, 0};
     while (r.taken < length) {
         uint8_t code = input[r.taken];
-        if (code < 1 || code > 9) { r.stop = 2; break; }
+        if (code < 1 || code > 10) { r.stop = 2; break; }
         if (length - r.taken < widths[code]) { r.stop = 3; break; }
         if (room - T1MMU_ANSWER_BYTES * r.answered < T1MMU_ANSWER_BYTES) { r.stop = 4; break; }
         uint8_t *out = output + T1MMU_ANSWER_BYTES * r.answered;
@@ -334,7 +373,37 @@ void plain_tag_access(struct unit *u, unsigned strand, unsigned side, u64 tag) {
 
 size_t plain_size(void) { return sizeof(struct unit); }
 
-/* From and to the library's words, outside what is measured. */
+/* Where the library has an outcome of a record, by its age: 0 is the latest. In its newest word are the latest and, above them, the oldest. */
+struct place {
+    unsigned word, bit;
+};
+
+static struct place place_of(unsigned record, unsigned seen, unsigned age) {
+    unsigned latest = (seen - 1) % 64 + 1, behind = age - latest;
+    if (age < latest || behind / 64 >= T1MMU_OLDER_WORDS) return (struct place){T1MMU_NEWEST + record, age % 64};
+    return (struct place){T1MMU_OLDER + T1MMU_OLDER_WORDS * record + behind / 64, behind % 64};
+}
+
+/* A record to and from the library's words. */
+static void load_record(struct record *r, unsigned record, const u64 *words) {
+    r->seen = words[T1MMU_SEEN + record];
+    for (unsigned age = 0; age < kept(r); age++) {
+        struct place from = place_of(record, r->seen, age);
+        unsigned at = (r->seen - 1 - age) % KEPT;
+        r->missed[at / 64] |= (words[from.word] >> from.bit & 1) << at % 64;
+    }
+}
+
+static void store_record(const struct record *r, unsigned record, u64 *words) {
+    words[T1MMU_SEEN + record] = r->seen <= KEPT ? r->seen : KEPT + 1 + (r->seen - KEPT - 1) % 64;
+    for (unsigned age = 0; age < kept(r); age++) {
+        struct place to = place_of(record, r->seen, age);
+        unsigned at = (r->seen - 1 - age) % KEPT;
+        words[to.word] |= (r->missed[at / 64] >> at % 64 & 1) << to.bit;
+    }
+}
+
+/* From and to the library's words, outside what is measured; those stored to are 0. */
 void plain_load(struct unit *u, const u64 *words) {
     memset(u, 0, sizeof *u);
     memcpy(u->registers, words + T1MMU_CELL_AT(0, 0), sizeof u->registers);
@@ -342,6 +411,7 @@ void plain_load(struct unit *u, const u64 *words) {
         const u64 *w = words + T1MMU_SLOT_AT(i / SLOTS, i % SLOTS);
         u->sides[i / SLOTS][i % SLOTS] = (struct slot){w[1], w[2], w[0] & 0x1FFF, w[0] >> 14, w[0] >> 13 & 1, w[3] & 1, w[3] >> 1};
     }
+    for (unsigned i = 0; i < T1MMU_RECORDS; i++) load_record(&u->records[i / T1MMU_SIDES][i % T1MMU_SIDES], i, words);
 }
 
 void plain_store(const struct unit *u, u64 *words) {
@@ -352,4 +422,5 @@ void plain_store(const struct unit *u, u64 *words) {
         w[0] = (u64)s->partition << 14 | (u64)s->real << 13 | s->context;
         w[1] = s->page, w[2] = s->word, w[3] = s->locked | s->used << 1;
     }
+    for (unsigned i = 0; i < T1MMU_RECORDS; i++) store_record(&u->records[i / T1MMU_SIDES][i % T1MMU_SIDES], i, words);
 }

@@ -35,8 +35,8 @@ extern "C" {
 
 /* ---- sizes ---- */
 
-#define T1MMU_VERSION 0x020000u /* 2.0.0: major * 65536 + minor * 256 + patch */
-#define T1MMU_STATE_WORDS 640   /* the strands' register cells, then the slots of side 0, then those of side 1 */
+#define T1MMU_VERSION 0x030000u /* 3.0.0: major * 65536 + minor * 256 + patch */
+#define T1MMU_STATE_WORDS 776   /* the strands' register cells, then the slots of side 0, then those of side 1, then the miss records */
 #define T1MMU_ANSWER_BYTES 24
 #define T1MMU_STRANDS 4
 #define T1MMU_SIDES 2
@@ -44,11 +44,23 @@ extern "C" {
 #define T1MMU_REGISTERS 26 /* register numbers are below it */
 #define T1MMU_CELLS 32     /* of a strand: a word for each register number, zero where there is no such register */
 #define T1MMU_SLOT_WORDS 4 /* of a slot: owner, page, entry word, flags */
+#define T1MMU_RECORDS 8    /* miss records: one for each strand and side, T1MMU_RECORD_OF */
+#define T1MMU_KEPT_LOOKUPS 1024 /* the most that a record keeps the outcomes of */
+#define T1MMU_OLDER_WORDS 15 /* of a record, beside its newest word: 64 outcomes each, the latest in the lowest bit, 1 for a miss */
 #define T1MMU_TSB_ENTRY_BYTES 16 /* of a TSB entry: its tag, then its word, both big-endian */
 
 /* Where in a state a strand's register stands, and where the words of a slot begin. */
 #define T1MMU_CELL_AT(strand, number) (T1MMU_CELLS * (strand) + (number))
 #define T1MMU_SLOT_AT(side, slot) (T1MMU_CELL_AT(T1MMU_STRANDS, 0) + T1MMU_SLOT_WORDS * (T1MMU_SLOTS * (side) + (slot)))
+
+/*
+ * Which miss record is a strand's and side's; and where in a state begins what each has seen (its lookups up to 1,024, from there on 1,024 and
+ * those in its newest word, whose other bits are then the oldest kept), then the newest words, one each, then the older words.
+ */
+#define T1MMU_RECORD_OF(strand, side) (T1MMU_SIDES * (strand) + (side))
+#define T1MMU_SEEN 640
+#define T1MMU_NEWEST 648
+#define T1MMU_OLDER 656
 
 /* The bytes of a TSB whose base register has N, 0 to 15. */
 #define T1MMU_TSB_BYTES(n) ((size_t)T1MMU_TSB_ENTRY_BYTES << (9 + (n)))
@@ -64,7 +76,8 @@ enum t1mmu_command {
     T1MMU_INVALIDATE = 0x06,    /* side */
     T1MMU_ACCESS = 0x07,        /* strand, kind, selector, size code, address 8 */
     T1MMU_READ = 0x08,          /* strand, register */
-    T1MMU_POINTERS = 0x09       /* strand, side */
+    T1MMU_POINTERS = 0x09,      /* strand, side */
+    T1MMU_RATE = 0x0A           /* strand, side */
 };
 
 /* The bytes of each command, its first byte included. */
@@ -77,6 +90,7 @@ enum t1mmu_command {
 #define T1MMU_ACCESS_BYTES 13
 #define T1MMU_READ_BYTES 3
 #define T1MMU_POINTERS_BYTES 3
+#define T1MMU_RATE_BYTES 3
 
 enum t1mmu_side { T1MMU_INSTRUCTION = 0, T1MMU_DATA = 1 };
 
@@ -130,15 +144,15 @@ enum t1mmu_page { T1MMU_8K = 0, T1MMU_64K = 1, T1MMU_4M = 3, T1MMU_256M = 5 };
  *
  * What is not named here is 0, and may gain a meaning in a later minor version, as c of T1MMU_PHYSICAL did in 1.2: bytes 4 to 7 of every
  * answer; a, b, c and the second value of T1MMU_DONE, and its first where nothing is counted; b and the second value of T1MMU_PHYSICAL; c of
- * T1MMU_TRAP; a, b and c of T1MMU_VALUE, and its second value of a register; a of T1MMU_DISPLACED; b, c and both values of T1MMU_REFUSED; all
- * of T1MMU_NOT_IN_TABLE. Read what is named, and ignore the rest (docs/CHANGELOG.md).
+ * T1MMU_TRAP; a, b and c of T1MMU_VALUE, and its second value of a register or a rate; a of T1MMU_DISPLACED; b, c and both values of
+ * T1MMU_REFUSED; all of T1MMU_NOT_IN_TABLE. Read what is named, and ignore the rest (docs/CHANGELOG.md).
  */
 
 enum t1mmu_answer {
     T1MMU_DONE = 0,      /* first value, for 0x03 to 0x05: the count of entries removed */
     T1MMU_PHYSICAL = 1,  /* a: T1MMU_CP + T1MMU_E + T1MMU_IE; c: enum t1mmu_page, or T1MMU_BYPASS_CODE; first value: the physical address */
     T1MMU_TRAP = 2,      /* a: enum t1mmu_trap; b: fault type; first value: the address as it was used; second: tag access as the trap left it */
-    T1MMU_VALUE = 3,     /* first value: the register; or both values: the pointers of ps0 and ps1 */
+    T1MMU_VALUE = 3,     /* first value: the register, or the miss rate; or both values: the pointers of ps0 and ps1 */
     T1MMU_DISPLACED = 4, /* b: its partition; c: 1 if it is real; first value: its page and context, as in tag access; second: its word */
     T1MMU_REFUSED = 5,   /* a: enum t1mmu_refusal; the command changed nothing */
     T1MMU_NOT_IN_TABLE = 6 /* of t1mmu_serve alone: the TSB entry does not fit; nothing changed */
@@ -150,7 +164,8 @@ enum t1mmu_attribute { T1MMU_CP = 1, T1MMU_E = 2, T1MMU_IE = 4 };
  * For a cache above the unit: a physical answer with a size code holds for its whole page. Until it is dropped, an access of the same strand,
  * kind and selector, of any allowed size, to an aligned address in the T1MMU_PAGE_BYTES(c) around the one asked for would get the same a and c,
  * and the physical address at its own offset. (specs: Extent) Drop it at any insertion, serve, demap or invalidation on its side, by any
- * strand, and at any write of registers 0 to 5 of its strand: docs/PAPER.md, section 9. Used bits do not see what such a cache answers.
+ * strand, and at any write of registers 0 to 5 of its strand: docs/PAPER.md, section 9. Used bits do not see what such a cache answers;
+ * nor is it a lookup, so the miss rate is that of what the cache lets through.
  */
 
 enum t1mmu_trap {
@@ -175,6 +190,13 @@ enum t1mmu_fault {
 };
 
 /*
+ * The miss rate is misses per thousand, rounded down, of the last T1MMU_KEPT_LOOKUPS lookups of a strand and side since reset, or of all where
+ * there were fewer. A lookup misses where the access gets trap 0x3E, 0x3F, 0x64 or 0x68. One that finds an entry is no miss, whatever the access
+ * gets. An access does not look up where it is refused, gets trap 0x34 or 0x37, is a bypass, into I/O space too, or is out of range.
+ * (specs: missRate)
+ */
+
+/*
  * Why a command that was taken, or a call of the miss handler, did not act. The first that fails is answered, in the order of the numbers;
  * but the miss handler asks T1MMU_REFUSED_TABLE before T1MMU_REFUSED_ADDRESS. STATE and TABLE are of its two calls alone.
  */
@@ -189,14 +211,15 @@ enum t1mmu_refusal {
     T1MMU_REFUSED_ADDRESS = 11,
     T1MMU_REFUSED_WORD = 12,
     T1MMU_REFUSED_NO_SLOT = 13,
-    T1MMU_REFUSED_TABLE = 14 /* the TSB that is used has not T1MMU_TSB_BYTES(N) bytes */
+    T1MMU_REFUSED_TABLE = 14, /* the TSB that is used has not T1MMU_TSB_BYTES(N) bytes */
+    T1MMU_REFUSED_NO_LOOKUP = 15 /* of T1MMU_RATE alone: no lookup of the strand and side since reset */
 };
 
 /* Why a run ended. */
 enum t1mmu_stop {
     T1MMU_END = 0,             /* at the end of the input */
     T1MMU_STOP_UNSOUND = 1,    /* the state is not sound, a wrong length included; tested once and first, and nothing changed */
-    T1MMU_STOP_UNKNOWN = 2,    /* before a command whose byte is not 0x01 to 0x09 */
+    T1MMU_STOP_UNKNOWN = 2,    /* before a command whose byte is not 0x01 to 0x0A */
     T1MMU_STOP_INCOMPLETE = 3, /* before a command that lacks operand bytes */
     T1MMU_STOP_NO_ROOM = 4     /* before a command for whose answer fewer than 24 bytes are left */
 };
@@ -247,7 +270,7 @@ uint32_t t1mmu_version(void);
 size_t t1mmu_state_words(void);
 
 /*
- * Writes the reset state: all zero, every strand in mode 2, both sides empty. Returns 0.
+ * Writes the reset state: all zero, every strand in mode 2, both sides empty, no lookup kept. Returns 0.
  * With words other than T1MMU_STATE_WORDS it changes nothing and returns 1. (specs: resetOf, resetNumber)
  */
 uint8_t t1mmu_reset(uint64_t *state, size_t words);
@@ -287,8 +310,8 @@ struct t1mmu_part t1mmu_hand_back(const uint64_t *state, size_t words, uint8_t s
  * insertion's: T1MMU_DONE, T1MMU_DISPLACED, or T1MMU_REFUSED with 11, 12 or 13, which are asked on a fit alone. Bytes that do not fit are
  * answered T1MMU_NOT_IN_TABLE. Refused before it looks at them: 1, 5, 6, 14, in this order, answered as T1MMU_REFUSED.
  *
- * Serving writes no register, is no lookup, and looks at no mode. Where an entry goes in, slots of its side change and nothing else; where
- * none does, nothing changes. (specs: servedOf)
+ * Serving writes no register, is no lookup and so not in the miss rate, and looks at no mode. Where an entry goes in, slots of its side
+ * change and nothing else; where none does, nothing changes. (specs: servedOf)
  *
  * What a caller does: an access is answered with trap 0x64 (side 0) or 0x68 (side 1); it serves the strand and side, and on T1MMU_DONE or
  * T1MMU_DISPLACED sends the access again; on T1MMU_NOT_IN_TABLE it hands the trap to the guest. After a real miss (0x3E, 0x3F) tag access has

@@ -21,6 +21,7 @@ static void expect(int holds, const char *what, long at)
 /* ---- lent buffers: state, input, output ---- */
 
 static struct lent state, input, output;
+static uint64_t before[2 * WORDS]; /* a state, to compare with */
 
 static uint64_t *words(void) { return (uint64_t *)(void *)state.bytes; }
 
@@ -91,14 +92,18 @@ static int has_answers(size_t n)
 
 /* ---- what is tried ---- */
 
-static const size_t wrong[] = {0, 1, T1MMU_SLOT_AT(0, 0) - 1, WORDS - 1, WORDS + 1, 2 * WORDS};
+/* Without the miss records a state had T1MMU_SEEN words, up to version 2. */
+static const size_t wrong[] = {0, 1, T1MMU_SLOT_AT(0, 0) - 1, T1MMU_SEEN - 1, T1MMU_SEEN, T1MMU_SEEN + 1, WORDS - 1, WORDS + 1, 2 * WORDS};
 #define WRONGS (sizeof wrong / sizeof *wrong)
 
 static void constants(void)
 {
     expect(t1mmu_version() == T1MMU_VERSION, "version", 0);
     expect(t1mmu_state_words() == WORDS, "state words", 0);
-    expect(T1MMU_SLOT_AT(T1MMU_SIDES, 0) == WORDS, "the words behind the last slot", 0);
+    expect(T1MMU_SLOT_AT(T1MMU_SIDES, 0) == T1MMU_SEEN, "the words behind the last slot", 0);
+    expect(T1MMU_SEEN + T1MMU_RECORDS == T1MMU_NEWEST && T1MMU_NEWEST + T1MMU_RECORDS == T1MMU_OLDER
+               && T1MMU_OLDER + T1MMU_RECORDS * T1MMU_OLDER_WORDS == WORDS, "the words of the records", 0);
+    expect(T1MMU_RECORD_OF(0, 1) == 1 && T1MMU_RECORD_OF(1, 0) == 2 && T1MMU_RECORD_OF(T1MMU_STRANDS, 0) == T1MMU_RECORDS, "records", 0);
     expect(T1MMU_TSB_BASE_OF(0, 1, 0) == 10 && T1MMU_TSB_BASE_OF(1, 1, 1) == 15, "TSB base registers", 0);
     expect(T1MMU_TSB_CONFIGURATION_OF(0, 1) == 17 && T1MMU_TSB_CONFIGURATION_OF(1, 1) == 19, "TSB configuration registers", 0);
     expect(sizeof(struct t1mmu_report) == 24 && offsetof(struct t1mmu_report, stop) == 16, "layout of the report", 0);
@@ -208,7 +213,7 @@ static void unknown_commands(int upper)
         place_reset(upper);
         place_input(bytes, 1, upper);
         place_output(ANSWER, upper);
-        expect(is(run(), 0, 0, 1 <= byte && byte <= 9 ? 3 : 2), "a single byte", (long)byte);
+        expect(is(run(), 0, 0, 1 <= byte && byte <= 10 ? 3 : 2), "a single byte", (long)byte);
         expect(has_answers(0), "a single byte wrote", (long)byte);
         expect_guards((long)byte);
     }
@@ -241,13 +246,147 @@ static void inserted(void)
     expect(words()[T1MMU_CELL_AT(0, T1MMU_TRANSLATION)] == 3, "the register that was written", 0);
 }
 
+/* ---- the miss records ---- */
+
+#define KEPT T1MMU_KEPT_LOOKUPS
+#define HISTORY (KEPT + 20 * 64)
+
+static uint64_t *older(unsigned record) { return words() + T1MMU_OLDER + T1MMU_OLDER_WORDS * record; }
+
+/* Whether the state as it is answers a rate with this kind, this a and this first value, and else zeros. */
+static int answers_rate(unsigned strand, unsigned side, unsigned kind, unsigned a, unsigned first)
+{
+    const uint8_t command[T1MMU_RATE_BYTES] = {T1MMU_RATE, (uint8_t)strand, (uint8_t)side};
+    uint8_t answer[ANSWER] = {(uint8_t)kind, (uint8_t)a};
+    answer[14] = (uint8_t)(first >> 8);
+    answer[15] = (uint8_t)first;
+    place_input(command, sizeof command, 1);
+    place_output(ANSWER, 1);
+    return is(run(), 1, sizeof command, 0) && memcmp(output.bytes, answer, ANSWER) == 0;
+}
+
+static int has_rate(unsigned strand, unsigned side, unsigned rate) { return answers_rate(strand, side, T1MMU_VALUE, 0, rate); }
+
+static int has_no_rate(unsigned strand, unsigned side, unsigned number) { return answers_rate(strand, side, T1MMU_REFUSED, number, 0); }
+
+static void rate_operands(void)
+{
+    place_reset(1);
+    for (unsigned byte = 0; byte < 256; byte++) {
+        expect(has_no_rate(byte, 2, byte < T1MMU_STRANDS ? 6 : 5), "the rate of strands, with a side that is none", (long)byte);
+        expect(has_no_rate(byte, 1, byte < T1MMU_STRANDS ? 15 : 5), "the rate of strands without a lookup", (long)byte);
+        expect(has_no_rate(0, byte, byte < T1MMU_SIDES ? 15 : 6), "the rate of sides without a lookup", (long)byte);
+    }
+    expect_reset("a rate changed the state");
+}
+
+static int missed[HISTORY];
+
+/* A bit of a record's words, by the age of its lookup: 0 is the latest. In the newest word are the latest and, above them, the oldest. */
+static uint64_t bit_at(unsigned record, size_t in_newest, size_t age)
+{
+    uint64_t newest = words()[T1MMU_NEWEST + record];
+    if (age < in_newest)
+        return newest >> age & 1;
+    size_t behind = age - in_newest;
+    return behind / 64 < T1MMU_OLDER_WORDS ? older(record)[behind / 64] >> behind % 64 & 1 : newest >> age % 64 & 1;
+}
+
+/* The words of strand 0's data record, and its rate, against the outcomes of the first n lookups. */
+static void expect_history(size_t n)
+{
+    unsigned record = T1MMU_RECORD_OF(0, T1MMU_DATA);
+    size_t kept = n < KEPT ? n : KEPT, in_newest = (n - 1) % 64 + 1, misses = 0, same = 1;
+    for (size_t age = 0; age < KEPT; age++) {
+        size_t outcome = age < kept && missed[n - 1 - age];
+        same = same && bit_at(record, in_newest, age) == outcome;
+        misses += outcome;
+    }
+    expect(words()[T1MMU_SEEN + record] == (n <= KEPT ? n : KEPT + in_newest), "what a record has seen", (long)n);
+    expect(same != 0, "the words of a record", (long)n);
+    expect(has_rate(0, T1MMU_DATA, (unsigned)(misses * 1000 / kept)), "the rate after so many lookups", (long)n);
+}
+
+/* The printed run, then loads that hit and miss: one lookup after the other, until the words have turned often. */
+static void histories(void)
+{
+    const uint8_t *hit = printed + END_4;
+    uint8_t miss[T1MMU_ACCESS_BYTES];
+    memcpy(miss, hit, sizeof miss);
+    miss[T1MMU_ACCESS_BYTES - 3] ^= 0x80;
+    inserted();
+    missed[0] = 1;
+    for (size_t n = 2; n < HISTORY; n++) {
+        expect_history(n);
+        missed[n] = n % 7 == 3 || n / 400 == 2;
+        place_input(missed[n] ? miss : hit, sizeof miss, 1);
+        place_output(ANSWER, 1);
+        expect(is(run(), 1, sizeof miss, 0) && output.bytes[0] == (missed[n] ? T1MMU_TRAP : T1MMU_PHYSICAL), "a lookup", (long)n);
+    }
+    expect_history(HISTORY);
+    for (unsigned strand = 0; strand < T1MMU_STRANDS; strand++)
+        for (unsigned side = 0; side < T1MMU_SIDES; side++)
+            expect((strand == 0 && side == T1MMU_DATA) || has_no_rate(strand, side, 15), "the rate of another record", (long)strand);
+}
+
+/* Each record by itself with 1,024 misses, and then with one less. */
+static void full_records(void)
+{
+    for (unsigned record = 0; record < T1MMU_RECORDS; record++) {
+        unsigned strand = record / T1MMU_SIDES, side = record % T1MMU_SIDES;
+        place_reset(1);
+        words()[T1MMU_SEEN + record] = KEPT;
+        words()[T1MMU_NEWEST + record] = UINT64_MAX;
+        memset(older(record), 0xff, T1MMU_OLDER_WORDS * 8);
+        expect(has_rate(strand, side, 1000), "a record of misses", (long)record);
+        older(record)[T1MMU_OLDER_WORDS - 1] -= UINT64_C(1) << 63;
+        expect(has_rate(strand, side, 999), "a record of misses and a hit", (long)record);
+    }
+}
+
+/* One run on a state with one record of that many lookups, its newest word, and one older word of ones. */
+static void expect_record(unsigned record, uint64_t n, uint64_t newest, size_t ones, int sound)
+{
+    place_reset(1);
+    words()[T1MMU_SEEN + record] = n;
+    words()[T1MMU_NEWEST + record] = newest;
+    if (ones < T1MMU_OLDER_WORDS)
+        older(record)[ones] = UINT64_MAX;
+    memcpy(before, state.bytes, state.length);
+    place_input(printed, 0, 1);
+    place_output(0, 1);
+    expect(is(run(), 0, 0, sound ? 0 : 1), "a record", (long)n);
+    expect(memcmp(state.bytes, before, state.length) == 0, "a record changed", (long)n);
+}
+
+/* Every record, with as many lookups: no bit may be set that no lookup kept has. */
+static void damaged_records(void)
+{
+    static const uint64_t counts[] = {0, 1, 2, 63, 64, 65, 66, 127, 128, 129, 960, 961, 1022, 1023, 1024, 1025, 1026, 1087, 1088, 1089, 2048};
+    for (unsigned record = 0; record < T1MMU_RECORDS; record++) {
+        for (size_t i = 0; i < sizeof counts / sizeof *counts; i++) {
+            uint64_t n = counts[i];
+            unsigned in_newest = n == 0 ? 0 : n > KEPT ? 64 : (unsigned)((n - 1) % 64) + 1;
+            uint64_t most = in_newest == 64 ? UINT64_MAX : (UINT64_C(1) << in_newest) - 1;
+            int sound = n <= KEPT + 64;
+            expect_record(record, n, 0, T1MMU_OLDER_WORDS, sound);
+            expect_record(record, n, most, T1MMU_OLDER_WORDS, sound);
+            if (in_newest < 64)
+                expect_record(record, n, most + 1, T1MMU_OLDER_WORDS, 0);
+            for (size_t j = 0; j < T1MMU_OLDER_WORDS; j++)
+                expect_record(record, n, most, j, sound && 64 * (j + 1) < n);
+        }
+        expect_record(record, UINT64_MAX, 0, T1MMU_OLDER_WORDS, 0);
+        expect_record(record, UINT64_C(1) << 32, 0, T1MMU_OLDER_WORDS, 0);
+    }
+}
+
 /* ---- the miss handler ---- */
 
 #define TSB T1MMU_TSB_BYTES(0)
 #define ENTRY T1MMU_TSB_ENTRY_BYTES
 
 static struct lent zero, other;
-static uint64_t before[2 * WORDS];
 
 /* What fits the page 0x402000 of 8 KB in context 0, at entry 1 of 512; the word is the printed run's. */
 static const uint8_t fits[ENTRY] = {0, 0, 0, 0, 0, 0, 0, 1, 0x80, 0, 0, 0, 0, 8, 4, 0x40};
@@ -486,6 +625,10 @@ int main(void)
     }
     unsound_words();
     inserted();
+    rate_operands();
+    histories();
+    full_records();
+    damaged_records();
     turned_bits();
     unsound_misses();
     largest_table();

@@ -358,7 +358,7 @@ fn short_row(empty: &Work, length: usize, work: &Work) {
 /// What a soundness test at each call costs where runs are short, and in serving: the C unit here does without.
 fn second_table(all: &[Short]) {
     head(&[
-        "per command, random slot of a full side (or per call)",
+        "per command, random slot of a full side, full records (or per call)",
         "library ns",
         "C without the test ns",
         "library/C",

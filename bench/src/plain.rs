@@ -1,10 +1,11 @@
 //! The unit as one would write it in Rust for speed without proofs: own structs, a linear scan, a pairwise soundness test.
 use t1mmu::numbers::{self, cell_at, slot_at, ANSWER_BYTES, CELLS, SIDES, SLOTS, SLOT_WORDS, STATE_WORDS, STRANDS, TSB_ENTRY_BYTES};
+use t1mmu::numbers::{record_of, KEPT_LOOKUPS, NEWEST, OLDER, OLDER_WORDS, SEEN};
 use t1mmu::sys::{Part, Report};
 
 const SHIFTS: [u8; 16] = [13, 16, 0, 22, 0, 28, 0, 0, 0, 0, 0, 0, 0, 0, 0, 0];
 /// By command byte.
-const WIDTHS: [usize; 10] = [
+const WIDTHS: [usize; 11] = [
     0,
     numbers::WRITE_BYTES,
     numbers::INSERT_BYTES,
@@ -15,6 +16,7 @@ const WIDTHS: [usize; 10] = [
     numbers::ACCESS_BYTES,
     numbers::READ_BYTES,
     numbers::POINTERS_BYTES,
+    numbers::RATE_BYTES,
 ];
 
 #[derive(Clone, Copy, Default)]
@@ -28,11 +30,19 @@ struct Slot {
     used: bool,
 }
 
+/// A ring of outcomes: whether lookup n missed is bit n modulo 1,024. From 2,048 the count goes to 1,025.
+#[derive(Clone, Copy, Default)]
+struct Record {
+    missed: [u64; KEPT_LOOKUPS / 64],
+    seen: usize,
+}
+
 type Registers = [u64; CELLS];
 
 pub struct Unit {
     registers: [Registers; STRANDS],
     sides: [[Slot; SLOTS]; SIDES],
+    records: [[Record; SIDES]; STRANDS],
 }
 
 fn in_range(a: u64) -> bool {
@@ -71,6 +81,28 @@ impl Slot {
         }
         let fits = self.partition <= 7 && self.context <= 8191 && !(self.real && self.context != 0);
         word_allowed(self.word) && fits && in_range(self.page) && self.holds(self.page)
+    }
+}
+
+impl Record {
+    fn kept(&self) -> usize {
+        self.seen.min(KEPT_LOOKUPS)
+    }
+
+    fn note(&mut self, missed: bool) {
+        let at = self.seen % KEPT_LOOKUPS;
+        let word = &mut self.missed[at / 64];
+        *word = *word & !(1 << (at % 64)) | (missed as u64) << (at % 64);
+        self.seen = if self.seen == 2 * KEPT_LOOKUPS { KEPT_LOOKUPS + 1 } else { self.seen + 1 };
+    }
+
+    /// No bit is set that has had no lookup.
+    fn sound(&self) -> bool {
+        let unset = |(i, word): (usize, &u64)| {
+            let had = self.seen.saturating_sub(64 * i);
+            had >= 64 || word >> had == 0
+        };
+        self.seen <= 2 * KEPT_LOOKUPS && self.missed.iter().enumerate().all(unset)
     }
 }
 
@@ -156,7 +188,7 @@ fn removal(slots: &mut [Slot; SLOTS], out: Out, goes: impl Fn(&Slot) -> bool) {
 impl Unit {
     fn sound(&self) -> bool {
         let registers = self.registers.iter().all(|r| r.iter().enumerate().all(|(n, &v)| value_allowed(n, v)));
-        registers && self.sides.iter().all(Unit::side_sound)
+        registers && self.sides.iter().all(Unit::side_sound) && self.records.iter().flatten().all(Record::sound)
     }
 
     fn side_sound(side: &[Slot; SLOTS]) -> bool {
@@ -216,7 +248,9 @@ impl Unit {
         let answers = |s: &&mut Slot| {
             s.live() && s.partition == partition && s.real == real && (real || s.context as u64 == c.context) && s.holds(c.address)
         };
-        let Some(s) = self.sides[c.side].iter_mut().find(answers) else {
+        let found = self.sides[c.side].iter_mut().find(answers);
+        self.records[strand as usize][c.side].note(found.is_none());
+        let Some(s) = found else {
             let number = [[0x64, 0x68], [0x3E, 0x3F]][real as usize][c.side];
             return trap(r, &c, true, number, 0, out);
         };
@@ -289,7 +323,8 @@ impl Unit {
                 answer(out, [3, 0, 0, 0], self.registers[b[1] as usize][b[2] as usize], 0);
                 0
             }
-            _ => self.pointers(b, out),
+            9 => self.pointers(b, out),
+            _ => self.rate(b, out),
         }
     }
 
@@ -352,6 +387,19 @@ impl Unit {
         0
     }
 
+    fn rate(&mut self, b: &[u8], out: Out) -> u8 {
+        if b[2] > 1 {
+            return 6;
+        }
+        let record = &self.records[b[1] as usize][b[2] as usize];
+        if record.seen == 0 {
+            return 15;
+        }
+        let misses: u32 = record.missed.iter().map(|word| word.count_ones()).sum();
+        answer(out, [3, 0, 0, 0], misses as u64 * 1000 / record.kept() as u64, 0);
+        0
+    }
+
     pub fn run(&mut self, input: &[u8], output: &mut [u8]) -> Report {
         let mut report = Report { answered: 0, taken: 0, stop: 0 };
         if !self.sound() {
@@ -361,7 +409,7 @@ impl Unit {
         while report.taken < input.len() {
             let rest = &input[report.taken..];
             let code = rest[0] as usize;
-            if !(1..=9).contains(&code) {
+            if !(1..=10).contains(&code) {
                 report.stop = 2;
                 break;
             }
@@ -433,13 +481,22 @@ impl Unit {
 
     /// From the library's words, outside what is measured.
     pub fn load(words: &[u64]) -> Box<Unit> {
-        let mut unit = Box::new(Unit { registers: [[0; CELLS]; STRANDS], sides: [[Slot::default(); SLOTS]; SIDES] });
+        let mut unit = Box::new(Unit {
+            registers: [[0; CELLS]; STRANDS],
+            sides: [[Slot::default(); SLOTS]; SIDES],
+            records: [[Record::default(); SIDES]; STRANDS],
+        });
         for (strand, registers) in unit.registers.iter_mut().enumerate() {
             registers.copy_from_slice(&words[cell_at(strand, 0)..][..CELLS]);
         }
         for (side, slots) in unit.sides.iter_mut().enumerate() {
             for (i, slot) in slots.iter_mut().enumerate() {
                 *slot = Slot::load(&words[slot_at(side, i)..][..SLOT_WORDS]);
+            }
+        }
+        for (strand, records) in unit.records.iter_mut().enumerate() {
+            for (side, record) in records.iter_mut().enumerate() {
+                *record = Record::load(record_of(strand, side), words);
             }
         }
         unit
@@ -453,6 +510,11 @@ impl Unit {
         for (side, slots) in self.sides.iter().enumerate() {
             for (i, slot) in slots.iter().enumerate() {
                 words[slot_at(side, i)..][..SLOT_WORDS].copy_from_slice(&slot.words());
+            }
+        }
+        for (strand, records) in self.records.iter().enumerate() {
+            for (side, record) in records.iter().enumerate() {
+                record.store(record_of(strand, side), &mut words);
             }
         }
         words
@@ -484,6 +546,41 @@ impl Slot {
     fn words(&self) -> [u64; SLOT_WORDS] {
         let owner = owner(self.partition as u64, self.real, self.context as u64);
         [owner, self.page, self.word, self.locked as u64 | (self.used as u64) << 1]
+    }
+}
+
+/// Where the library has an outcome of a record, by its age, as word and bit: 0 is the latest. In its newest word are the latest and, above
+/// them, the oldest.
+fn place_of(record: usize, seen: usize, age: usize) -> (usize, usize) {
+    let latest = (seen - 1) % 64 + 1;
+    match age.checked_sub(latest) {
+        Some(behind) if behind / 64 < OLDER_WORDS => (OLDER + OLDER_WORDS * record + behind / 64, behind % 64),
+        _ => (NEWEST + record, age % 64),
+    }
+}
+
+impl Record {
+    /// Where the ring has an outcome, by its age.
+    fn at(&self, age: usize) -> usize {
+        (self.seen + KEPT_LOOKUPS - 1 - age) % KEPT_LOOKUPS
+    }
+
+    fn load(record: usize, words: &[u64]) -> Record {
+        let mut r = Record { seen: words[SEEN + record] as usize, ..Record::default() };
+        for age in 0..r.kept() {
+            let ((word, bit), at) = (place_of(record, r.seen, age), r.at(age));
+            r.missed[at / 64] |= (words[word] >> bit & 1) << (at % 64);
+        }
+        r
+    }
+
+    fn store(&self, record: usize, words: &mut [u64]) {
+        let turned = |more: usize| KEPT_LOOKUPS + 1 + more % 64;
+        words[SEEN + record] = self.seen.checked_sub(KEPT_LOOKUPS + 1).map_or(self.seen, turned) as u64;
+        for age in 0..self.kept() {
+            let ((word, bit), at) = (place_of(record, self.seen, age), self.at(age));
+            words[word] |= (self.missed[at / 64] >> (at % 64) & 1) << bit;
+        }
     }
 }
 

@@ -2,9 +2,10 @@
 use crate::plain::{owner, partition_of};
 use std::cell::LazyCell;
 use t1mmu::numbers::{cell_at, slot_at, tsb_bytes, SIDES, SLOTS, SLOT_WORDS, STATE_WORDS, STRANDS, TSB_ENTRY_BYTES};
-use t1mmu::numbers::{ACCESS, DEMAP_ALL, DEMAP_CONTEXT, DEMAP_PAGE, INSERT, POINTERS, READ, WRITE};
+use t1mmu::numbers::{ACCESS, DEMAP_ALL, DEMAP_CONTEXT, DEMAP_PAGE, INSERT, POINTERS, RATE, READ, WRITE};
 use t1mmu::numbers::{DATA, DATA_ON, FETCH_ON, HYPERPRIVILEGED, LOAD, PRIMARY, PRIVILEGED, SECONDARY};
 use t1mmu::numbers::{DISPLACED, DONE, NOT_IN_TABLE};
+use t1mmu::numbers::{KEPT_LOOKUPS, NEWEST, SEEN};
 use t1mmu::numbers::{MODE, PARTITION, PRIMARY_CONTEXT, SECONDARY_CONTEXT, TAG_ACCESS, TRANSLATION};
 
 const TAG: u64 = 0x1000_0000;
@@ -263,12 +264,22 @@ fn other_partition(words: &[u64]) -> Vec<u64> {
     words
 }
 
+/// Every record full of lookups, any of which missed.
+fn recorded(words: &[u64]) -> Vec<u64> {
+    let mut r = Random(362436069362436069);
+    let mut words = words.to_vec();
+    words[SEEN..NEWEST].fill(KEPT_LOOKUPS as u64);
+    words[NEWEST..].fill_with(|| r.below(usize::MAX) as u64);
+    words
+}
+
 fn small() -> Vec<Work> {
     let one = state(Population::OneGuest);
     vec![
         long("write of a register", 1.0, &one, |i| with(&[WRITE, 0, SECONDARY_CONTEXT], i as u64)),
         long("read of a register", 1.0, &one, |i| vec![READ, 0, i as u8 % 6]),
         long("pointers", 1.0, &one, |_| vec![POINTERS, 0, DATA]),
+        long("miss rate", 1.0, &recorded(&one), |_| vec![RATE, 0, DATA]),
         long(&format!("refused (register {NO_REGISTER})"), 1.0, &one, |_| vec![READ, 0, NO_REGISTER]),
     ]
 }
@@ -287,23 +298,24 @@ fn states() -> Vec<Work> {
         soundness("full sides, random pages", 0.25, state(Population::RandomPages)),
         soundness("full sides, real and virtual", 0.25, state(Population::RealAndVirtual)),
         soundness("full sides, both halves", 0.25, state(Population::BothHalves)),
+        soundness("full sides, one guest, full records", 0.06, recorded(&state(Population::OneGuest))),
         // as after a reset
         soundness("sides, empty", 1.0, hyperprivileged(&[0; STATE_WORDS])),
     ]
 }
 
 /// Each serve puts in a page that is not there: all those of the TSB pass before one comes again.
-fn displacing_serves(name: &str, population: Population) -> Work {
+fn displacing_serves(name: &str, words: &[u64]) -> Work {
     let calls = || Calls::Serves(DISPLACED, Misses::new(NEW, |i| NEW + 0x2000 * i));
-    Work::new(&format!("served miss with displacement, {name}"), &state(population), TSB_ENTRIES, 1.0, calls)
+    Work::new(&format!("served miss with displacement, {name}"), words, TSB_ENTRIES, 1.0, calls)
 }
 
 fn misses() -> Vec<Work> {
     let one = state(Population::OneGuest);
     let on_one = |name: &str, calls: fn() -> Calls| Work::new(name, &one, TSB_ENTRIES, 1.0, calls);
     vec![
-        displacing_serves("one guest", Population::OneGuest),
-        displacing_serves("eight partitions", Population::EightPartitions),
+        displacing_serves("one guest", &one),
+        displacing_serves("eight partitions", &state(Population::EightPartitions)),
         on_one("served miss over the same page, full side", || Calls::Serves(DONE, Misses::new(TAG, |_| TAG))),
         on_one("served miss, another page's entry: not in table", || {
             Calls::Serves(NOT_IN_TABLE, Misses::new(NEW, |i| ABSENT + 0x2000 * i))
@@ -331,16 +343,18 @@ pub struct Short {
     pub works: Vec<(usize, Work)>,
 }
 
-/// The second table's works.
+/// The second table's works. Records are full from the start: hits fill them, and number 1 takes less of a full one than of an empty one.
 pub fn short() -> Vec<Short> {
     let on = |name: &str, population| {
+        let words = recorded(&state(population));
         let hits = [1, 4, 16].map(|length| {
-            let of = hits(state(population), length, f64::INFINITY);
+            let of = hits(words.clone(), length, f64::INFINITY);
             (length, Work { name: format!("{}, {name}", of.name), ..of })
         });
+        let name = format!("{name}, full records");
         Short {
-            empty: soundness(&format!("full sides, {name}"), f64::INFINITY, state(population)),
-            works: hits.into_iter().chain([(1, displacing_serves(name, population))]).collect(),
+            works: hits.into_iter().chain([(1, displacing_serves(&name, &words))]).collect(),
+            empty: soundness(&format!("full sides, {name}"), f64::INFINITY, words),
         }
     };
     vec![on("one guest", Population::OneGuest), on("eight partitions", Population::EightPartitions)]

@@ -10,7 +10,7 @@
  *     page_cache_drop_side(..) before a miss is served
  *
  * Addresses are compared as they are given: two of one page are of one page behind the address mask, too. An answer of the cache sets no
- * used bit, so the unit may displace a page that is used through the cache alone.
+ * used bit, so the unit may displace a page that is used through the cache alone; and it is no lookup, so the miss rate is of the rest.
  */
 #ifndef PAGE_CACHE_H
 #define PAGE_CACHE_H

@@ -161,7 +161,7 @@ static void put_command(struct source *s, struct stream *t)
     else if (choice < 11)
         put_access(s, t);
     else
-        put_other(s, t, choice < 14 ? choice - 8 : choice == 14 ? T1MMU_READ + (draw(s) & 1) : T1MMU_INVALIDATE);
+        put_other(s, t, choice < 14 ? choice - 8 : choice == 14 ? T1MMU_READ + draw(s) % 3 : T1MMU_INVALIDATE);
 }
 
 static void shape(struct source *s, struct stream *t, unsigned commands)
@@ -179,20 +179,53 @@ static uint8_t room_before[MOST_OUTPUT], copied[MOST_OUTPUT], scratch[MOST_INPUT
 
 static uint64_t *words(void) { return (uint64_t *)(void *)state.bytes; }
 
+/* The outcomes in the newest word of a record that has seen so many lookups; beyond 1,024 the others are the oldest kept. */
+static unsigned in_newest(uint64_t n) { return n == 0 ? 0 : (unsigned)((n - 1) % 64) + 1; }
+
+/* What a word of a record may hold at most: the newest, and the older ones by their number. */
+static uint64_t most_newest(uint64_t n)
+{
+    return n > T1MMU_KEPT_LOOKUPS || in_newest(n) == 64 ? UINT64_MAX : (UINT64_C(1) << in_newest(n)) - 1;
+}
+static uint64_t most_older(uint64_t n, unsigned j) { return 64 * (j + 1) < n ? UINT64_MAX : 0; }
+
+/* A record of any length, which no stream here is long enough for. */
+static void put_record(struct source *s, unsigned record)
+{
+    uint64_t n = (draw(s) * 256u + draw(s)) % (T1MMU_KEPT_LOOKUPS + 64 + 1), pattern = draw8(s);
+    words()[T1MMU_SEEN + record] = n;
+    words()[T1MMU_NEWEST + record] = pattern & most_newest(n);
+    for (unsigned j = 0; j < T1MMU_OLDER_WORDS; j++)
+        words()[T1MMU_OLDER + T1MMU_OLDER_WORDS * record + j] = (pattern << j | pattern >> (63 - j)) & most_older(n, j);
+}
+
+/* Strands in any mode, since none looks up in that of reset; and records. */
+static void put_sound_words(struct source *s)
+{
+    unsigned modes = draw(s), records = draw(s);
+    for (unsigned strand = 0; strand < T1MMU_STRANDS; strand++)
+        words()[T1MMU_CELL_AT(strand, T1MMU_MODE)] = (modes >> 2 * strand & 3) % 3;
+    for (unsigned record = 0; record < T1MMU_RECORDS; record++)
+        if (records >> record & 1)
+            put_record(s, record);
+}
+
 /* Whether the state must be sound. */
 static int make_state(struct source *s, unsigned plan, int upper)
 {
-    static const size_t other[4] = {0, 1, WORDS - 1, WORDS + 1};
+    static const size_t other[8] = {0, 1, WORDS - 1, WORDS + 1, T1MMU_SEEN - 1, T1MMU_SEEN, T1MMU_SEEN + 1, T1MMU_OLDER};
     if (plan == 3) {
-        lent_place(&state, other[draw(s) % 4] * 8, upper);
+        lent_place(&state, other[draw(s) % 8] * 8, upper);
         memset(state.bytes, 0, state.length);
         return 0;
     }
     lent_place(&state, WORDS * 8, upper);
     HOLDS(t1mmu_reset(words(), WORDS) == 0);
     first.length = 0;
-    if (plan != 0)
+    if (plan != 0) {
+        put_sound_words(s);
         shape(s, &first, draw(s) % 32);
+    }
     HOLDS(t1mmu_run(words(), WORDS, first.bytes, first.length, scratch, sizeof scratch).stop != T1MMU_STOP_UNSOUND);
     if (plan != 2)
         return 1;
@@ -229,16 +262,16 @@ static void judge_answer(const uint8_t *sent, const uint8_t *a)
     if (a[0] == T1MMU_TRAP)
         HOLDS(command == T1MMU_ACCESS && known_trap(a[1]) && a[3] == 0);
     if (a[0] == T1MMU_VALUE)
-        HOLDS(command == T1MMU_READ || command == T1MMU_POINTERS);
+        HOLDS(command == T1MMU_READ || command == T1MMU_POINTERS || command == T1MMU_RATE);
     if (a[0] == T1MMU_DISPLACED)
         HOLDS(command == T1MMU_INSERT && a[2] < 8 && a[3] < 2 && a[16] >> 7 == 1);
     if (a[0] == T1MMU_REFUSED)
-        HOLDS(5 <= a[1] && a[1] <= 13);
+        HOLDS((5 <= a[1] && a[1] <= 13) || (a[1] == T1MMU_REFUSED_NO_LOOKUP && command == T1MMU_RATE));
     seen[(command * 8u + a[0]) * 128 + ((a[1] ^ a[2] << 1) & 127)] = 1;
 }
 
 /* The bytes of each command, by its first byte. */
-static const uint8_t width[T1MMU_POINTERS + 1] = {
+static const uint8_t width[T1MMU_RATE + 1] = {
     [T1MMU_WRITE] = T1MMU_WRITE_BYTES,
     [T1MMU_INSERT] = T1MMU_INSERT_BYTES,
     [T1MMU_DEMAP_PAGE] = T1MMU_DEMAP_PAGE_BYTES,
@@ -248,6 +281,7 @@ static const uint8_t width[T1MMU_POINTERS + 1] = {
     [T1MMU_ACCESS] = T1MMU_ACCESS_BYTES,
     [T1MMU_READ] = T1MMU_READ_BYTES,
     [T1MMU_POINTERS] = T1MMU_POINTERS_BYTES,
+    [T1MMU_RATE] = T1MMU_RATE_BYTES,
 };
 
 static int known_command(unsigned byte) { return byte < sizeof width && width[byte] > 0; }
@@ -314,6 +348,107 @@ static void judge_again(struct t1mmu_report r, unsigned part)
     struct t1mmu_report b = t1mmu_run(copy, n, input.bytes + a.taken, input.length - a.taken, copied + half, output.length - half);
     HOLDS(a.answered + b.answered == r.answered && a.taken + b.taken == r.taken && b.stop == r.stop);
     HOLDS(memcmp(copy, state.bytes, state.length) == 0 && memcmp(copied, output.bytes, output.length) == 0);
+}
+
+/* ---- the miss records, command by command ---- */
+
+static uint64_t stepped[WORDS];
+
+static const uint64_t *older(const uint64_t *on, unsigned record) { return on + T1MMU_OLDER + T1MMU_OLDER_WORDS * record; }
+
+static uint64_t kept(uint64_t n) { return n < T1MMU_KEPT_LOOKUPS ? n : T1MMU_KEPT_LOOKUPS; }
+
+static int record_sound(const uint64_t *on, unsigned record)
+{
+    uint64_t n = on[T1MMU_SEEN + record], newest = on[T1MMU_NEWEST + record];
+    int sound = n <= T1MMU_KEPT_LOOKUPS + 64 && newest <= most_newest(n);
+    for (unsigned j = 0; j < T1MMU_OLDER_WORDS; j++)
+        sound = sound && older(on, record)[j] <= most_older(n, j);
+    return sound;
+}
+
+/* The outcome of a lookup by its age: 0 is the latest. In the newest word are the latest and, above them, the oldest. */
+static unsigned outcome(const uint64_t *on, unsigned record, unsigned age)
+{
+    unsigned latest = in_newest(on[T1MMU_SEEN + record]), word = (age - latest) / 64;
+    int newest = age < latest || word >= T1MMU_OLDER_WORDS;
+    return newest ? on[T1MMU_NEWEST + record] >> age % 64 & 1 : older(on, record)[word] >> (age - latest) % 64 & 1;
+}
+
+static int same_record(const uint64_t *on, const uint64_t *other, unsigned record)
+{
+    return on[T1MMU_SEEN + record] == other[T1MMU_SEEN + record] && on[T1MMU_NEWEST + record] == other[T1MMU_NEWEST + record]
+           && memcmp(older(on, record), older(other, record), T1MMU_OLDER_WORDS * 8) == 0;
+}
+
+/* Whether an access looked up, by its answer: a trap of mode 2 is that of I/O space. */
+static int looked_up(const uint8_t *a, uint64_t mode)
+{
+    if (a[0] == T1MMU_PHYSICAL)
+        return a[3] != T1MMU_BYPASS_CODE;
+    return a[0] == T1MMU_TRAP && a[1] != T1MMU_MEM_ADDRESS_NOT_ALIGNED && a[1] != T1MMU_PRIVILEGED_ACTION && mode != T1MMU_HYPERPRIVILEGED
+           && a[2] != T1MMU_FAULT_OUT_OF_RANGE;
+}
+
+static int is_miss(const uint8_t *a)
+{
+    return a[0] == T1MMU_TRAP && (a[1] == 0x3e || a[1] == 0x3f || a[1] == 0x64 || a[1] == 0x68);
+}
+
+/* One lookup more: its outcome is the latest, and all others are older by one. */
+static void judge_noted(const uint64_t *was, unsigned record, unsigned missed)
+{
+    uint64_t n = was[T1MMU_SEEN + record];
+    HOLDS(stepped[T1MMU_SEEN + record] == (n == T1MMU_KEPT_LOOKUPS + 64 ? T1MMU_KEPT_LOOKUPS + 1 : n + 1));
+    HOLDS(record_sound(stepped, record) && outcome(stepped, record, 0) == missed);
+    for (unsigned age = 0; age < kept(n) && age + 1 < T1MMU_KEPT_LOOKUPS; age++)
+        HOLDS(outcome(stepped, record, age + 1) == outcome(was, record, age));
+}
+
+/* A strand and a side that there are: refused where the record is empty, else so many of a thousand. */
+static void judge_rate(unsigned record, const uint8_t *a)
+{
+    uint64_t n = kept(stepped[T1MMU_SEEN + record]), misses = 0;
+    for (unsigned age = 0; age < n; age++)
+        misses += outcome(stepped, record, age);
+    if (n == 0)
+        HOLDS(a[0] == T1MMU_REFUSED && a[1] == T1MMU_REFUSED_NO_LOOKUP);
+    else
+        HOLDS(a[0] == T1MMU_VALUE && all_are(a + 8, 6, 0) && a[14] * 256u + a[15] == misses * 1000 / n && all_are(a + 16, 8, 0));
+}
+
+/* A lookup changes the record of its strand and side, and nothing else changes any. */
+static void judge_step(const uint64_t *was, const uint8_t *sent, const uint8_t *a)
+{
+    int looks = sent[0] == T1MMU_ACCESS && a[0] != T1MMU_REFUSED && looked_up(a, was[T1MMU_CELL_AT(sent[1], T1MMU_MODE)]);
+    unsigned noted = looks ? (unsigned)T1MMU_RECORD_OF(sent[1], sent[2] != T1MMU_FETCH) : T1MMU_RECORDS;
+    for (unsigned record = 0; record < T1MMU_RECORDS; record++)
+        if (record == noted)
+            judge_noted(was, record, (unsigned)is_miss(a));
+        else
+            HOLDS(same_record(was, stepped, record));
+    if (sent[0] == T1MMU_RATE)
+        HOLDS(a[0] == T1MMU_VALUE || a[0] == T1MMU_REFUSED);
+    if (sent[0] == T1MMU_RATE && sent[1] < T1MMU_STRANDS && sent[2] < T1MMU_SIDES)
+        judge_rate(T1MMU_RECORD_OF(sent[1], sent[2]), a);
+}
+
+/* The run's commands one by one. */
+static void judge_records(struct t1mmu_report r)
+{
+    if (r.stop == T1MMU_STOP_UNSOUND)
+        return;
+    for (unsigned record = 0; record < T1MMU_RECORDS; record++)
+        HOLDS(record_sound(before, record));
+    memcpy(stepped, before, sizeof stepped);
+    for (size_t at = 0; at < r.taken; at += width[input.bytes[at]]) {
+        const uint8_t *sent = input.bytes + at;
+        uint8_t answer[T1MMU_ANSWER_BYTES];
+        memcpy(copy, stepped, sizeof stepped);
+        HOLDS(t1mmu_run(stepped, WORDS, sent, width[sent[0]], answer, sizeof answer).answered == 1);
+        judge_step(copy, sent, answer);
+    }
+    HOLDS(memcmp(stepped, state.bytes, sizeof stepped) == 0);
 }
 
 /* ---- a miss, on the state that the run left ---- */
@@ -452,6 +587,7 @@ static void judge_fit(const struct miss *m, const uint8_t *word, struct t1mmu_an
     HOLDS(t1mmu_run(copy, WORDS, command, sizeof command, answer, sizeof answer).answered == 1);
     HOLDS(memcmp(answer, a.bytes, sizeof answer) == 0 && is_same(copy, state.bytes));
     HOLDS(memcmp(words(), before, slots * 8) == 0 && memcmp(words() + untouched, before + untouched, side * 8) == 0);
+    HOLDS(memcmp(words() + T1MMU_SEEN, before + T1MMU_SEEN, (WORDS - T1MMU_SEEN) * 8) == 0);
     if (a.bytes[0] == T1MMU_REFUSED) {
         HOLDS(11 <= a.bytes[1] && a.bytes[1] <= 13 && is_same(before, state.bytes));
         return;
@@ -526,6 +662,7 @@ int LLVMFuzzerTestOneInput(const uint8_t *data, size_t size)
     judge_stop(r, sound);
     judge_answers(r.answered, r.taken);
     judge_again(r, part);
+    judge_records(r);
     judge_miss(&miss, plan >> 2 & 1);
     return 0;
 }

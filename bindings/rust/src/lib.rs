@@ -121,7 +121,7 @@ pub struct Unit {
 }
 
 impl Unit {
-    /// A core at reset: all zero, every strand in mode 2, both TLBs empty.
+    /// A core at reset: all zero, every strand in mode 2, both TLBs empty, no lookup kept.
     pub fn reset() -> Unit {
         let mut words = Box::new([0; STATE_WORDS]);
         // SAFETY: the pointer and the length are of one array that is ours alone.

@@ -11,9 +11,9 @@ macro_rules! numbers {
 
 numbers! {
     /// The version that this crate is written for: major * 65536 + minor * 256 + patch.
-    VERSION: u32 = 0x02_00_00;
+    VERSION: u32 = 0x03_00_00;
     /// The words of a state.
-    STATE_WORDS: usize = 640;
+    STATE_WORDS: usize = 776;
     /// The bytes of an answer.
     ANSWER_BYTES: usize = 24;
     STRANDS: usize = 4;
@@ -26,8 +26,21 @@ numbers! {
     CELLS: usize = 32;
     /// The words of a slot in a state: owner, page, entry word, flags.
     SLOT_WORDS: usize = 4;
+    /// Miss records: one for each strand and side, [`record_of`].
+    RECORDS: usize = 8;
+    /// The most lookups that a record keeps the outcomes of.
+    KEPT_LOOKUPS: usize = 1024;
+    /// The words of a record beside its newest one: 64 outcomes each, the latest in the lowest bit, 1 for a miss.
+    OLDER_WORDS: usize = 15;
     /// The bytes of a TSB entry: its tag, then its word.
     TSB_ENTRY_BYTES: usize = 16;
+
+    /// Where in a state begins what each record has seen: its lookups up to 1,024, from there on 1,024 and those in its newest word.
+    SEEN: usize = 640;
+    /// Where in a state the newest words of the records begin, one each; beyond 1,024 lookups the other bits are the oldest kept.
+    NEWEST: usize = 648;
+    /// Where in a state the older words of the records begin, [`OLDER_WORDS`] each.
+    OLDER: usize = 656;
 
     // Commands, by their first byte.
     WRITE: u8 = 0x01;
@@ -39,6 +52,8 @@ numbers! {
     ACCESS: u8 = 0x07;
     READ: u8 = 0x08;
     POINTERS: u8 = 0x09;
+    /// Misses per thousand of the last [`KEPT_LOOKUPS`] lookups, rounded down.
+    RATE: u8 = 0x0A;
 
     // The bytes of each command, its first byte included.
     WRITE_BYTES: usize = 11;
@@ -50,6 +65,7 @@ numbers! {
     ACCESS_BYTES: usize = 13;
     READ_BYTES: usize = 3;
     POINTERS_BYTES: usize = 3;
+    RATE_BYTES: usize = 3;
 
     /// Side 0.
     INSTRUCTION: u8 = 0;
@@ -169,6 +185,8 @@ numbers! {
     REFUSED_NO_SLOT: u8 = 13;
     /// The TSB that is used has another length; of the miss handler's two calls alone.
     REFUSED_TABLE: u8 = 14;
+    /// No lookup of the strand and side since reset; of [`RATE`] alone.
+    REFUSED_NO_LOOKUP: u8 = 15;
 
     // Why a run ended; [`crate::Stop`] has them as an enum.
     END: u8 = 0;
@@ -209,4 +227,9 @@ pub const fn cell_at(strand: usize, register: u8) -> usize {
 /// Where in a state the words of a slot begin.
 pub const fn slot_at(side: usize, slot: usize) -> usize {
     cell_at(STRANDS, 0) + SLOT_WORDS * (SLOTS * side + slot)
+}
+
+/// Which of the records is a strand's and side's.
+pub const fn record_of(strand: usize, side: usize) -> usize {
+    SIDES * strand + side
 }

@@ -1,5 +1,5 @@
 //! The crate's own tests. What is expected is the documents', not the library's.
-use t1mmu::numbers::{self, cell_at, page_bytes, slot_at, tsb_base_of, tsb_bytes, tsb_configuration_of};
+use t1mmu::numbers::{self, cell_at, page_bytes, record_of, slot_at, tsb_base_of, tsb_bytes, tsb_configuration_of};
 use t1mmu::{pack, state_words, unpack, version, NoPart, Report, Stop, Tte, Unit, ANSWER_BYTES, STATE_WORDS, VERSION};
 
 /// Document 01's printed run.
@@ -41,11 +41,17 @@ fn reset_is_mode_2_and_else_zero() {
 
 #[test]
 fn words_stand_where_the_layout_says() {
-    assert_eq!(slot_at(numbers::SIDES, 0), STATE_WORDS);
+    assert_eq!(slot_at(numbers::SIDES, 0), numbers::SEEN);
+    assert_eq!(record_of(numbers::STRANDS, 0), numbers::RECORDS);
+    assert_eq!(numbers::SEEN + numbers::RECORDS, numbers::NEWEST);
+    assert_eq!(numbers::NEWEST + numbers::RECORDS, numbers::OLDER);
+    assert_eq!(numbers::OLDER + numbers::RECORDS * numbers::OLDER_WORDS, STATE_WORDS);
     let mut unit = Unit::reset();
     unit.run(&bytes(PRINTED), &mut [0; ROOM]);
     assert_eq!(unit.words()[cell_at(0, numbers::TRANSLATION)], 3);
     assert_eq!(unit.words()[slot_at(1, 0)..slot_at(1, 1)], [0, 0x40_2000, WORD, 2]);
+    assert_eq!(unit.words()[numbers::SEEN + record_of(0, 1)], 2);
+    assert_eq!(unit.words()[numbers::NEWEST + record_of(0, 1)], 0b10, "a miss, then a hit");
 }
 
 #[test]
@@ -226,6 +232,55 @@ fn io_space_takes_no_nonfaulting_load_and_no_atomic() {
         unit.run(&[&[numbers::ACCESS, 0, kind, numbers::PRIMARY, 3][..], &ADDRESS.to_be_bytes()].concat(), &mut output);
         assert_eq!(output[..], expected, "kind {kind}");
     }
+}
+
+/// What the miss rate is answered with: the rate, or the number of the refusal.
+fn rate(unit: &mut Unit, strand: u8, side: u8) -> Result<u64, u8> {
+    let mut answer = [0xee; ANSWER_BYTES];
+    assert_eq!(unit.run(&[numbers::RATE, strand, side], &mut answer), report(1, numbers::RATE_BYTES, Stop::End));
+    if answer[0] == numbers::REFUSED {
+        return Err(answer[1]);
+    }
+    assert_eq!((answer[0], &answer[1..8], &answer[16..]), (numbers::VALUE, &[0; 7][..], &[0; 8][..]));
+    Ok(u64::from_be_bytes(answer[8..16].try_into().expect("eight bytes")))
+}
+
+#[test]
+fn the_miss_rate_is_that_of_the_last_lookups() {
+    let mut unit = Unit::reset();
+    unit.run(&bytes(PRINTED), &mut [0; ROOM]);
+    // what each lookup was: the page of the printed run hits, and another misses
+    let mut missed = vec![true, false];
+    for i in 0..3 * numbers::KEPT_LOOKUPS {
+        let kept = &missed[missed.len().saturating_sub(numbers::KEPT_LOOKUPS)..];
+        let misses = kept.iter().filter(|m| **m).count();
+        assert_eq!(rate(&mut unit, 0, numbers::DATA), Ok((misses * 1000 / kept.len()) as u64), "after {} lookups", missed.len());
+        missed.push(i % 7 == 3 || i / 500 == 1);
+        let address: u64 = if missed[i + 2] { 0x80_0000 } else { 0x40_2008 };
+        unit.run(&[&[numbers::ACCESS, 0, numbers::LOAD, numbers::PRIMARY, 3][..], &address.to_be_bytes()].concat(), &mut [0; ANSWER_BYTES]);
+    }
+    assert_eq!(rate(&mut unit, 0, numbers::INSTRUCTION), Err(numbers::REFUSED_NO_LOOKUP), "the other side");
+    assert_eq!(rate(&mut unit, 1, numbers::DATA), Err(numbers::REFUSED_NO_LOOKUP), "another strand");
+    assert_eq!(rate(&mut unit, 4, 2), Err(numbers::REFUSED_STRAND));
+    assert_eq!(rate(&mut unit, 1, 2), Err(numbers::REFUSED_SIDE));
+}
+
+#[test]
+fn what_does_not_look_up_is_not_in_the_rate() {
+    let access = |kind: u8, address: u64| [&[numbers::ACCESS, 0, kind, numbers::PRIMARY, 3][..], &address.to_be_bytes()].concat();
+    let bypasses = [access(numbers::LOAD, 8), access(numbers::ATOMIC, 1 << 39), access(numbers::NONFAULTING_LOAD, 1 << 39)].concat();
+    let mut unit = Unit::reset();
+    unit.run(&bypasses, &mut [0; ROOM]);
+    assert_eq!(rate(&mut unit, 0, numbers::DATA), Err(numbers::REFUSED_NO_LOOKUP), "in mode 2");
+    let mut unit = missed();
+    let none = [access(numbers::LOAD, 1), access(numbers::LOAD, 1 << 47), access(5, 8)].concat();
+    unit.run(&none, &mut [0; ROOM]);
+    unit.serve(0, numbers::DATA, &table(WORD), &[]);
+    assert_eq!(rate(&mut unit, 0, numbers::DATA), Ok(1000), "misaligned, out of range, refused, and a serve");
+    // the page again, without w
+    unit.run(&bytes("0100150000000000402000020001008000000000080400"), &mut [0; ROOM]);
+    unit.run(&access(numbers::STORE, 0x40_2008), &mut [0; ROOM]);
+    assert_eq!(rate(&mut unit, 0, numbers::DATA), Ok(500), "found, and a fault");
 }
 
 #[test]

@@ -11,7 +11,8 @@ use Rattle.machine.specs.declared.Access.{Access}
 use Rattle.machine.specs.declared.Tag.{Tag}
 use Rattle.machine.specs.declared.Tag.the-variants.{Kept, Written}
 use Rattle.machine.specs.declared.Trap.{Trap}
-use Rattle.state.proofs.Parts.{Sized, sized-with-registers, sized-back}
+use Rattle.machine.proofs.State.{Sized}
+use Rattle.state.proofs.Parts.{sized-with-registers, sized-back}
 
 -- words that hold a state of the right size give it back
 pub left-back : {u : State} {left : List ℕ} → Sized counts u → left ≡ encode u → stateIn left ≡ u

@@ -1,4 +1,4 @@
--- What an access picks from and looks up, and what a trap's registers have room for: a byte of fault type, 13 bits of context.
+-- What an access picks from, and what a trap's registers have room for: a byte of fault type, 13 bits of context.
 -- Assumes nothing.
 use Prim.Native.Nat.{ℕ, _<_}
 use mathlib.Core.Path.{_≡_}
@@ -7,7 +7,6 @@ use mathlib.Core.List.{List}
 use Rattle.machine.specs.Registers.{registersSound}
 use Rattle.machine.specs.State.{stateIn}
 use Rattle.machine.specs.Access.{trapFault}
-use Rattle.machine.specs.Slots.{KeyFits}
 use Rattle.machine.specs.declared.Access.{Access}
 use Rattle.machine.specs.declared.Trap.{Trap}
 use Rattle.machine.specs.declared.Tag.{Tag}
@@ -33,11 +32,11 @@ abbrev pub TagFits : Tag → Type 0
 TagFits Kept = Unit {0}
 TagFits (Written context) = context < 8192
 
--- what steps 1 to 4 hand on: the trap that they take, or the key that is looked up
+-- the trap that steps 1 to 4 take
 abbrev pub PreparedFits : Prepared → Type 0
 PreparedFits (Stopped t tag) = FaultFits t × TagFits tag
 PreparedFits (Bypass p) = Unit {0}
-PreparedFits (Lookup key) = KeyFits key
+PreparedFits Lookup = Unit {0}
 
 -- the traps that steps 6 and 7 take
 abbrev pub JudgedFits : Judged → Type 0

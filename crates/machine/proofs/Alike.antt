@@ -1,4 +1,4 @@
--- How a state of the unit and a ledger with its places stand to each other: the same registers, on each side the same entries, and each in its place.
+-- How a state of the unit and a ledger with its places stand to each other: the same registers, on each side the same entries, each in its place, and the same lookups.
 -- Assumes nothing.
 use Prim.Native.Nat.{ℕ, _<_}
 use mathlib.Core.Path.{_≡_}
@@ -9,9 +9,10 @@ use Rattle.laws.specs.Tests.{count}
 use Rattle.machine.specs.Slots.{isLive, isUsed}
 use Rattle.machine.specs.Sound.{sideSound}
 use Rattle.machine.specs.Registers.{register, registersSound}
+use Rattle.machine.specs.Record.{Records}
 use Rattle.machine.specs.State.{Counts, State, sideOf}
 use Rattle.machine.specs.Ledger.{Entry, Ledger}
-use Rattle.machine.specs.Places.{Place, empty, filled, Reference}
+use Rattle.machine.specs.Places.{Place, empty, filled, Reference, seenWords, newestWords, olderWords}
 use Rattle.machine.specs.Frame.{entryIn}
 use Rattle.machine.specs.declared.Slot.{Slot}
 
@@ -25,11 +26,18 @@ pub record SideAlike (n : ℕ) (s : List Slot) (m : List Entry) : Type 0 where
   pub sound : sideSound s ≡ true
   pub same : (p : Entry → Bool) → count (hit p) s ≡ count p m
 
+-- the words of the records are those of the lookups
+pub record RecordsAlike (x : Records) (lookups : ℕ → ℕ → List Bool) : Type 0 where
+  pub seen : x .seen ≡ seenWords lookups
+  pub newest : x .newest ≡ newestWords lookups
+  pub older : x .older ≡ olderWords lookups
+
 pub record Alike (n : Counts) (u : State) (l : Ledger) : Type 0 where
   pub allowed : registersSound (u .registers) ≡ true
   pub registers : (strand number : ℕ) → strand < 4 → number < 32 → l .registers strand number ≡ register (u .registers) strand number
   pub itlb : SideAlike (n .itlb) (u .itlb) (l .entries 0)
   pub dtlb : SideAlike (n .dtlb) (u .dtlb) (l .entries 1)
+  pub records : RecordsAlike (u .records) (l .lookups)
 
 -- what stands in a slot, as a place
 abbrev pub placeIn : Slot → Place

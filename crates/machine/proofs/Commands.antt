@@ -21,14 +21,14 @@ use Rattle.machine.specs.Insertion.{removes, candidate, placed, inserted
 use Rattle.machine.specs.Sound.{slotSound}
 use Rattle.machine.specs.Registers.{partition, selected}
 use Rattle.machine.specs.Questions.{kindSide, flagReal, keyOf, asked, verdict}
-use Rattle.machine.specs.Access.{lookupKey, prepare, settleLooked, accessTo}
+use Rattle.machine.specs.Access.{prepare, Stepped, settleLooked, missed, outcomeNoted, settle, accessTo}
 use Rattle.machine.specs.declared.VirtualAddress.{VirtualAddress}
 use Rattle.machine.specs.State.{Counts, slotCount, State, sideOf, withSide}
 use Rattle.machine.specs.Step.{placedAnswer, demap, act}
 use Rattle.machine.specs.Stream.{Bytes, answerBytes}
 use Rattle.machine.specs.Ledger.{Entry, Ledger, Name, nameIn, isNamed, line, lacksSlot, overlap, unlocked}
 use Rattle.machine.specs.Ledger.{Written, inserts, demaps, withEntries, isAt, inContext, contextPicked}
-use Rattle.machine.specs.Ledger.{translationOn, Asked, askedSide, earlySteps, looksUp, foundBy, misses, lookedUp}
+use Rattle.machine.specs.Ledger.{translationOn, Asked, askedSide, earlySteps, looksUp, foundBy, misses, puts, lookedUp}
 use Rattle.machine.specs.Ledger.{accesses, pointers, does}
 use Rattle.machine.specs.Places.{Reference, emptiedWhere, usedWhere, each, accessed, moved}
 use Rattle.machine.specs.Demand3.{InsertionSays, AccessSays}
@@ -36,6 +36,7 @@ use Rattle.machine.specs.Frame.{entryIn}
 use Rattle.machine.specs.Views.{view}
 use Rattle.machine.specs.declared.Slot.{Slot}
 use Rattle.machine.specs.declared.Access.{Access}
+use Rattle.machine.specs.declared.Prepared.the-variants as prepared
 use Rattle.machine.specs.declared.Removal.{Removal}
 use Rattle.machine.specs.declared.Removal.the-variants as removal
 use Rattle.machine.specs.declared.Placed.{Placed}
@@ -49,11 +50,12 @@ use Rattle.machine.specs.declared.Answer.the-variants as answer
 use Rattle.machine.specs.declared.Verdict.the-variants.{Passed}
 use Rattle.machine.proofs.Matches.{looked-by}
 use Rattle.machine.proofs.State.{strand-sound, kind-side, passed-asked, key-address}
-use Rattle.machine.proofs.Questions.{context-picked, write-bytes, write-alike, read-bytes, pointers-bytes}
+use Rattle.machine.proofs.Questions.{context-picked, write-bytes, write-alike, read-bytes, pointers-bytes, rate-bytes}
 use Rattle.machine.proofs.Looks.{StepAlike, accessFor, Early, looks, ends, prepare-alike, key-alike, key-small}
 use Rattle.machine.proofs.Looks.{miss-alike, hit-alike, miss-not-hit, access-alike, fit-none, used-alike}
 use Rattle.machine.proofs.Used.{SameSlots, hit-slots}
 use Rattle.machine.proofs.Bytes.{line-answer, name-back, line-kind}
+use Rattle.machine.proofs.Records.{noted-alike}
 use Rattle.machine.proofs.Alike.{SideAlike, Alike, placeIn, PlacesAlike, ReferenceAlike}
 use Rattle.machine.proofs.Places.{displaced-way, emptied-side, used-side, unused-side, places-each, places-same}
 use Rattle.machine.proofs.Sides.{SameTest, everything-test, page-test, context-test, partition-test, key-test}
@@ -69,15 +71,15 @@ alike-side (suc (suc k)) b h = absurd (omega arith)
 
 pub alike-with-side : {n : Counts} {u : State} {l : Ledger} (side : ℕ) {s : List Slot} {m : List Entry} → side < 2 → Alike n u l
     → SideAlike (slotCount n side) s m → Alike n (withSide u side s) (withEntries l side m)
-alike-with-side zero b h k = record { allowed = h .allowed; registers = h .registers; itlb = k; dtlb = h .dtlb }
-alike-with-side (suc zero) b h k = record { allowed = h .allowed; registers = h .registers; itlb = h .itlb; dtlb = k }
+alike-with-side zero b h k = record { allowed = h .allowed; registers = h .registers; itlb = k; dtlb = h .dtlb; records = h .records }
+alike-with-side (suc zero) b h k = record { allowed = h .allowed; registers = h .registers; itlb = h .itlb; dtlb = k; records = h .records }
 alike-with-side (suc (suc j)) b h k = absurd (omega arith)
 
 -- used bits are nothing to the ledger
 pub alike-marked : {n : Counts} {u : State} {l : Ledger} (side : ℕ) {s : List Slot} → side < 2 → Alike n u l
     → SideAlike (slotCount n side) s (l .entries side) → Alike n (withSide u side s) l
-alike-marked zero b h k = record { allowed = h .allowed; registers = h .registers; itlb = k; dtlb = h .dtlb }
-alike-marked (suc zero) b h k = record { allowed = h .allowed; registers = h .registers; itlb = h .itlb; dtlb = k }
+alike-marked zero b h k = record { allowed = h .allowed; registers = h .registers; itlb = k; dtlb = h .dtlb; records = h .records }
+alike-marked (suc zero) b h k = record { allowed = h .allowed; registers = h .registers; itlb = h .itlb; dtlb = k; records = h .records }
 alike-marked (suc (suc j)) b h k = absurd (omega arith)
 
 -- ---- demaps
@@ -265,6 +267,20 @@ module _ {n : Counts} {u : State} {l : Ledger} (h : Alike n u l) where
   demap-does side which p b t = record { bytes = sym (demap-bytes h side b which p t); alike = demap-alike h side b which p t }
 
   -- ---- the lookup itself
+  -- its outcome, put down in both
+  puts-alike : (a : Asked) → a .strand < 4 → (b : Bool) {r : Stepped} {w : Written} → StepAlike n r w
+      → StepAlike n (outcomeNoted (accessFor (u .registers) a) (tick b) r) (puts a b w)
+  puts-alike a s b j = record {
+    bytes = j .bytes;
+    alike = record {
+      allowed = j .alike .allowed;
+      registers = j .alike .registers;
+      itlb = j .alike .itlb;
+      dtlb = j .alike .dtlb;
+      records = noted-alike (j .alike .records) (a .strand) (kindSide (a .kind)) s (kind-side (a .kind)) b;
+    };
+  }
+
   pub looked : (a : Asked) → SideAlike (slotCount n (kindSide (a .kind))) (sideOf u (kindSide (a .kind))) (l .entries (kindSide (a .kind)))
   looked a = alike-side (kindSide (a .kind)) (kind-side (a .kind)) h
 
@@ -279,19 +295,19 @@ module _ {n : Counts} {u : State} {l : Ledger} (h : Alike n u l) where
   found-alike : (a : Asked) → a .strand < 4 → a .selector < 3 →
       let b : Access = accessFor (u .registers) a in
       let side : ℕ = kindSide (a .kind) in
-      StepAlike n (settleLooked u b (lookup (lookupKey (u .registers) b) (sideOf u side))) (lookedUp l a (find (foundBy l a) (l .entries side)))
+      StepAlike n (settle u b prepared.Lookup) (lookedUp l a (find (foundBy l a) (l .entries side)))
   found-alike a s c =
       let side : ℕ = kindSide (a .kind) in
       let b : Access = accessFor (u .registers) a in
       let w : Written = lookedUp l a (find (foundBy l a) (l .entries side)) in
-      rw (key-alike h a s c) (looked-by _ (sideOf u side) (λ f. StepAlike n (settleLooked u b f) w)
-      (λ e. rw (alike-nothing (looked a) (key-same a s c) e) (miss-alike h a s c))
+      rw (key-alike h a s c) (looked-by _ (sideOf u side) (λ f. StepAlike n (outcomeNoted b (missed f) (settleLooked u b f)) w)
+      (λ e. rw (alike-nothing (looked a) (key-same a s c) e) (puts-alike a s true (miss-alike h a s c)))
       (λ i e.
       let f = alike-found (looked a) (key-same a s c) i (looked-one a s c) e in
       let x = getD (sideOf u side) i noSlot in
       let marked = alike-marked side (kind-side (a .kind)) h (alike-used (looked a) i (f .0)) in
       let good : wordSound (x .word) ≡ true = live-parts x (sound-slot (sideOf u side) i (looked a .sound)) (f .0) .word in
-      rw (f .1, key-address _ _ _ _) (hit-alike marked a s c (entryIn x) refl good)))
+      rw (f .1, key-address _ _ _ _) (puts-alike a s false (hit-alike marked a s c (entryIn x) refl good))))
 
   access-does : (a : Asked) → a .strand < 4 → a .selector < 3 → StepAlike n (accessTo u (accessFor (u .registers) a)) (accesses l a)
   unfolding accesses
@@ -329,6 +345,7 @@ module _ {n : Counts} {u : State} {l : Ledger} (h : Alike n u l) where
       rw (← (used-alike h strand address s)) (access-does _ s (search conj))
   does-alike (command.Read strand number) v d t = record { bytes = read-bytes h strand number v; alike = h }
   does-alike (command.Pointers strand side) v d t = record { bytes = pointers-bytes h strand side v; alike = h }
+  does-alike (command.Rate strand side) v d t = record { bytes = rate-bytes h strand side v; alike = h }
 
 -- ---- and its places
 same-side : (u : State) (side : ℕ) → SameSlots u (withSide u side (sideOf u side))
@@ -345,13 +362,13 @@ module _ {n : Counts} {u : State} {k : Reference} (h : ReferenceAlike n u k) whe
   found-places : (a : Asked) → a .strand < 4 → a .selector < 3 →
       let b : Access = accessFor (u .registers) a in
       let side : ℕ = kindSide (a .kind) in
-      PlacesAlike (settleLooked u b (lookup (lookupKey (u .registers) b) (sideOf u side)) .state) (each k side (usedWhere (foundBy l a)))
+      PlacesAlike (settle u b prepared.Lookup .state) (each k side (usedWhere (foundBy l a)))
   found-places a s c =
       let side : ℕ = kindSide (a .kind) in
       let b : Access = accessFor (u .registers) a in
       let t = key-same (h .ledger) a s c in
       let ps = each k side (usedWhere (foundBy l a)) in
-      rw (key-alike (h .ledger) a s c) (looked-by _ (sideOf u side) (λ f. PlacesAlike (settleLooked u b f .state) ps)
+      rw (key-alike (h .ledger) a s c) (looked-by _ (sideOf u side) (λ f. PlacesAlike (outcomeNoted b (missed f) (settleLooked u b f) .state) ps)
       (λ e.
       let none-found = none-count _ (sideOf u side) (found-none noSlot _ (sideOf u side) e) in
       places-same _ (places-each (h .places) side (kind-side (a .kind)) (sideOf u side) (usedWhere (foundBy l a))
@@ -392,3 +409,4 @@ module _ {n : Counts} {u : State} {k : Reference} (h : ReferenceAlike n u k) whe
       rw (← (used-alike (h .ledger) strand address s)) (access-places _ s (search conj))
   does-places (command.Read strand number) v t = h .places
   does-places (command.Pointers strand side) v t = h .places
+  does-places (command.Rate strand side) v t = h .places

@@ -13,7 +13,7 @@ use Rattle.machine.specs.Slots.{noSlot, Looked, hit, miss, lookup}
 use Rattle.machine.specs.Insertion.{candidate, placed}
 use Rattle.machine.specs.State.{Counts, slotCount, State, sideOf, stateOf, encode, wordsSound}
 use Rattle.machine.specs.Questions.{insertion, askedInsertion, asked, ask, verdict}
-use Rattle.machine.specs.Access.{Stepped, prepare, judge, translatedBy, settleJudged, settleLooked, settle}
+use Rattle.machine.specs.Access.{Stepped, lookupKey, prepare, judge, translatedBy, settleJudged, settleLooked, settle}
 use Rattle.machine.specs.Step.{placedAnswer, act, stepBy, step, insertStep}
 use Rattle.machine.specs.Stream.{Bytes, answerBytes}
 use Rattle.machine.specs.Serve.{servedOf}
@@ -61,7 +61,7 @@ settled-kind : (u : State) (a : Access) (p : Prepared) → 5 ≤ getD (answerByt
 unfolding answerBytes
 settled-kind u a (prepared.Stopped t tag) h = omega arith
 settled-kind u a (prepared.Bypass p) h = omega arith
-settled-kind u a (prepared.Lookup key) h = looked-kind u a (lookup key (sideOf u (a .side))) h
+settled-kind u a prepared.Lookup h = looked-kind u a (lookup (lookupKey (u .registers) a) (sideOf u (a .side))) h
 
 placed-kind : (r : Placed) → not (isRefused r) ≡ true → 5 ≤ getD (answerBytes (placedAnswer r)) 0 0 → ⊥
 unfolding answerBytes
@@ -88,6 +88,7 @@ passed-kind u (command.Invalidate side) v h = omega arith
 passed-kind u (command.Access strand kind selector size address) v h = settled-kind u _ (prepare (u .registers) _) h
 passed-kind u (command.Read strand number) v h = omega arith
 passed-kind u (command.Pointers strand side) v h = omega arith
+passed-kind u (command.Rate strand side) v h = omega arith
 
 refusal-leaves : (u : State) (c : Command) → getD (answerBytes (step u c .answer)) 0 0 ≡ 5 → step u c .state ≡ u
 unfolding step

@@ -45,6 +45,8 @@ use Rattle.machine.proofs.Sound.{entry-live}
 use Rattle.machine.proofs.State.{sound-file, sound-encode, words-sound, passed-asked, insertion-sound}
 use Rattle.machine.proofs.Runs.{commandsOf, run-answered, run-taken, run-stop, run-words, run-front, run-past}
 use Rattle.machine.proofs.Readable.{reads-taken, reads-stop}
+use Rattle.machine.proofs.Record.{row-length, row-at}
+use Rattle.machine.proofs.Records.{records-sound}
 use Rattle.machine.proofs.Alike.{SideAlike, Alike, placeIn, PlacesAlike, ReferenceAlike}
 use Rattle.machine.proofs.Used.{new-used}
 use Rattle.machine.proofs.Places.{inserted-side, places-with, side-words}
@@ -305,22 +307,10 @@ side-fits h = and-both _ _ (eq-eqb _ _ (h .size)) (h .sound)
 
 pub alike-sound : (n : Counts) (u : State) (l : Ledger) → Alike n u l → sound n u ≡ true
 unfolding sound
-alike-sound n u l h = and-both _ _ (h .allowed) (and-both _ _ (side-fits (h .itlb)) (side-fits (h .dtlb)))
+alike-sound n u l h = and-both _ _ (h .allowed) (and-both _ _ (side-fits (h .itlb)) (and-both _ _ (side-fits (h .dtlb)) (records-sound (h .records))))
 
 -- ---- a list of commands
 -- the words of a state and of the book beside it
-pub row-length : (f : ℕ → ℕ) (n : ℕ) → length (row f n) ≡ n
-unfolding row
-row-length f zero = refl
-row-length f (suc n) = length-append (row f n) _ ∙ omega (arith, row-length f n)
-
-pub row-at : (f : ℕ → ℕ) (n i : ℕ) → i < n → getD (row f n) i 0 ≡ f i
-unfolding row
-row-at f zero i h = absurd (omega arith)
-row-at f (suc n) i h = by-test (eqb i n)
-    (λ e. rw (eqb-true i n e) (getD-at (row f n) (f n) [] 0 n (row-length f n)))
-    (λ e. let l : i < n = omega (arith, eqb-false i n e) in List·getD-append (row f n) (f n ∷ []) 0 i (rw (row-length f n) l) ∙ row-at f n i l)
-
 pub alike-words : {n : Counts} {u : State} {k : Reference} → ReferenceAlike n u k → encode u ≡ referenceWords k
 unfolding encode referenceWords
 alike-words {u} {k} h =
@@ -335,6 +325,9 @@ alike-words {u} {k} h =
       ← file,
       side-words (u .itlb) (h .ledger .itlb .sound),
       side-words (u .dtlb) (h .ledger .dtlb .sound),
+      h .ledger .records .seen,
+      h .ledger .records .newest,
+      h .ledger .records .older,
     )
   where
     size : length (u .registers) ≡ registerWords

@@ -23,7 +23,7 @@ use Rattle.machine.specs.Questions.{kindSide, keyOf}
 use Rattle.machine.specs.Stream.{Bytes}
 use Rattle.machine.specs.Ledger.{Entry, Ledger, Name, Written, writes, withEntries, codeBytes, pageBytes, bit, addressGood, reaches, overlap}
 use Rattle.machine.specs.Ledger.{unlocked, bigEndian, line, valueFrom, isNamed, isOf, isAt, translationOn, contextPicked, Asked, askedSide}
-use Rattle.machine.specs.Ledger.{faults, faultsOf, plainTrap, trapWith, firstFit, earlySteps, foundBy, misses, hits, lookedUp, accesses, pointers}
+use Rattle.machine.specs.Ledger.{faults, faultsOf, plainTrap, trapWith, firstFit, earlySteps, foundBy, misses, hits, puts, lookedUp, accesses, pointers}
 use Rattle.machine.specs.Ledger.{firstNo, insertionQuestions, questions, lacksSlot, displaces, inserts, does, enters, entersInsertion, serves}
 use Rattle.machine.specs.Ledger.{Miss, refused, absent, present, miss}
 use Rattle.machine.specs.Places.{Reference}
@@ -94,10 +94,14 @@ module _ (strand side : ℕ) (l : Ledger) where
   tagged-lasts a context number type =
       write-lasts (faults-last a number type) (a .strand) (20 + askedSide a) _ (above (a .strand) (20 + askedSide a) (omega arith))
 
+  -- a lookup that is put down changes neither registers nor entries
+  puts-last : (a : Asked) (missed : Bool) (w : Written) → Lasts w → Lasts (puts a missed w)
+  puts-last a missed w u = record { registers = u .registers; entries = u .entries }
+
   looked-lasts : (a : Asked) (o : Option Entry) → Lasts (lookedUp l a o)
   unfolding misses hits
-  looked-lasts a none = tagged-lasts a _ _ 0
-  looked-lasts a (some e) = fit-ind Lasts _ _ (tagged-lasts a _ _ _, (tagged-lasts a _ 0x6C 0, tt)) same
+  looked-lasts a none = puts-last a true (misses l a) (tagged-lasts a _ _ 0)
+  looked-lasts a (some e) = puts-last a false (hits l a e) (fit-ind Lasts _ _ (tagged-lasts a _ _ _, (tagged-lasts a _ 0x6C 0, tt)) same)
 
   access-lasts : (a : Asked) → Lasts (accesses l a)
   unfolding accesses earlySteps
@@ -130,6 +134,7 @@ module _ (strand side : ℕ) (l : Ledger) where
   does-lasts n (command.Access s kind selector size address) d h = access-lasts _
   does-lasts n (command.Read s number) d h = same
   does-lasts n (command.Pointers s k) d h = same
+  does-lasts n (command.Rate s k) d h = same
 
   command-lasts : (n : ℕ → ℕ) (c : Command) (d : Name) → disturbs strand side c ≡ false → Lasts (enters n l c d)
   unfolding enters

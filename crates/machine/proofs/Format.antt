@@ -50,16 +50,17 @@ known-at r (command.Invalidate side) h w = rw w
 known-at r (command.Access strand kind selector size address) h w = rw (w, eight-back (address .0) r h)
 known-at r (command.Read strand register) h w = rw w
 known-at r (command.Pointers strand side) h w = rw w
+known-at r (command.Rate strand side) h w = rw w
 
 -- a byte that is no command's differs from one that is
-no-command : (b k : ℕ) → (ltb b 1 || ltb 9 b) ≡ true → (ltb k 1 || ltb 9 k) ≡ false → eqb b k ≡ false
+no-command : (b k : ℕ) → (ltb b 1 || ltb 10 b) ≡ true → (ltb k 1 || ltb 10 k) ≡ false → eqb b k ≡ false
 no-command b k h i = by-test (eqb b k) (λ e. clash h (rw (eqb-true b k e) i)) (λ e. e)
 
-unknown-at : (s : List ℕ) (at : ℕ) → (ltb (byte s at) 1 || ltb 9 (byte s at)) ≡ true → decodeAt s at ≡ Stop 2
+unknown-at : (s : List ℕ) (at : ℕ) → (ltb (byte s at) 1 || ltb 10 (byte s at)) ≡ true → decodeAt s at ≡ Stop 2
 unfolding decodeAt widthOf
 unknown-at s at h =
-    let no : (k : ℕ) → (ltb k 1 || ltb 9 k) ≡ false → eqb (byte s at) k ≡ false = λ k. no-command (byte s at) k h in
-    simp (no 1 refl, no 2 refl, no 3 refl, no 4 refl, no 5 refl, no 6 refl, no 7 refl, no 8 refl, no 9 refl)
+    let no : (k : ℕ) → (ltb k 1 || ltb 10 k) ≡ false → eqb (byte s at) k ≡ false = λ k. no-command (byte s at) k h in
+    simp (no 1 refl, no 2 refl, no 3 refl, no 4 refl, no 5 refl, no 6 refl, no 7 refl, no 8 refl, no 9 refl, no 10 refl)
 
 -- a command's byte with too few bytes from it
 cut-at : (s : List ℕ) (c : Command) → byte s 0 ≡ byte (encoded c) 0 → ltb (length s - 0) (length (encoded c)) ≡ true → decodeAt s 0 ≡ Stop 3
@@ -73,6 +74,7 @@ cut-at s (command.Invalidate side) e w = rw (e, w)
 cut-at s (command.Access strand kind selector size address) e w = rw (e, w)
 cut-at s (command.Read strand register) e w = rw (e, w)
 cut-at s (command.Pointers strand side) e w = rw (e, w)
+cut-at s (command.Rate strand side) e w = rw (e, w)
 
 short-at : (q r : List ℕ) (c : Command) → encoded c ≡ q ++ r → 1 ≤ length q → 1 ≤ length r → decodeAt q 0 ≡ Stop 3
 short-at [] r c e i j = absurd (omega arith)

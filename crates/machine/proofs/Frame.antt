@@ -22,7 +22,7 @@ use Rattle.machine.specs.Sound.{slotSound, sideSound}
 use Rattle.machine.specs.Registers.{partition}
 use Rattle.machine.specs.State.{Counts, State, sideOf, withSide, sound}
 use Rattle.machine.specs.Questions.{flagReal, flagLocked, keyOf, insertion, askedInsertion, asked, ask, verdict}
-use Rattle.machine.specs.Access.{Stepped, accessOf, prepare, translatedBy, settleJudged, settleLooked, settle, judge}
+use Rattle.machine.specs.Access.{Stepped, accessOf, lookupKey, prepare, translatedBy, settleJudged, settleLooked, settle, judge}
 use Rattle.machine.specs.declared.VirtualAddress.{VirtualAddress}
 use Rattle.machine.specs.declared.Access.{Access}
 use Rattle.machine.specs.declared.Translation.{Translation}
@@ -212,7 +212,7 @@ module _ (n : Counts) (u : State) (side : ℕ) (e : Entry) (h : sound n u ≡ tr
   settled-frame : (a : Access) (p : Prepared) → a .side < 2 → Lives (settle u a p .state) side e
   settled-frame a (prepared.Stopped t tag) d = l
   settled-frame a (prepared.Bypass p) d = l
-  settled-frame a (prepared.Lookup key) d = looked-frame a (lookup key (sideOf u (a .side))) d
+  settled-frame a prepared.Lookup d = looked-frame a (lookup (lookupKey (u .registers) a) (sideOf u (a .side))) d
 
   -- every command that no question refused
   act-frame : (c : Command) → verdict u c ≡ Passed → Lives (act u c .state) side e ⊎ Removes u side e c
@@ -243,6 +243,7 @@ module _ (n : Counts) (u : State) (side : ℕ) (e : Entry) (h : sound n u ≡ tr
       inl (settled-frame a (prepare (u .registers) a) (kind-side kind))
   act-frame (command.Read strand number) v = inl l
   act-frame (command.Pointers strand other) v = inl l
+  act-frame (command.Rate strand other) v = inl l
 
 -- ---- the laws
 -- a live entry stays, the same in all its parts, or the command was accepted and is one that takes it

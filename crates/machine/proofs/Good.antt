@@ -22,17 +22,21 @@ use Rattle.machine.specs.Registers.{register, allowed, registersSound}
 use Rattle.machine.specs.State.{wordsSound, Counts, slotCount, State, sideOf, stateOf, sound}
 use Rattle.machine.specs.Frame.{entryIn}
 use Rattle.machine.specs.Ledger.{Entry, overlap}
-use Rattle.machine.specs.Places.{Place, empty, filled, Reference, row}
+use Rattle.machine.specs.Places.{Place, empty, filled, Reference, row, seenWords, newestWords, olderWords}
 use Rattle.machine.specs.Good.{GoodWords, EntryGood, SideGood, entriesIn, ReferenceGood}
 use Rattle.machine.specs.Demand3.{Described}
+use Rattle.machine.specs.Step.{step}
 use Rattle.machine.specs.declared.Slot.{Slot}
+use Rattle.machine.specs.declared.Command.{Command}
 use Rattle.machine.proofs.Sound.{live-parts, no-slot-sound, none-overlaps, sound-slot}
-use Rattle.machine.proofs.State.{allowed-at, sound-registers, sound-side, encode-state, words-sound, sound-words}
+use Rattle.machine.proofs.State.{allowed-at, sound-registers, sound-side, sound-records, encode-state, words-sound, sound-words}
 use Rattle.machine.proofs.Questions.{address-good, page-bytes, word-good, cell-good}
 use Rattle.machine.proofs.Alike.{hit, SideAlike, placeIn, ReferenceAlike}
 use Rattle.machine.proofs.Sides.{overlap-test}
 use Rattle.machine.proofs.Commands.{alike-side}
-use Rattle.machine.proofs.Demand3.{alike-sound, row-length, row-at, alike-words, events-say}
+use Rattle.machine.proofs.Record.{row-length, row-at}
+use Rattle.machine.proofs.Records.{lookupsOf, records-back}
+use Rattle.machine.proofs.Demand3.{step-says, alike-sound, alike-words, events-say}
 
 -- ---- from slots to places
 entry-good : (x : Slot) → slotSound x ≡ true → isLive x ≡ true → EntryGood (entryIn x)
@@ -75,7 +79,11 @@ side-good n s z h = record {
 -- the book of a state
 abbrev referenceOf : State → Reference
 referenceOf u = record {
-  ledger = record { registers = register (u .registers); entries = λ side. entriesIn (map placeIn (sideOf u side)) };
+  ledger = record {
+    registers = register (u .registers);
+    entries = λ side. entriesIn (map placeIn (sideOf u side));
+    lookups = lookupsOf (u .records);
+  };
   places = λ side. map placeIn (sideOf u side);
 }
 
@@ -86,12 +94,22 @@ entries-same p (x ∷ r) = by-test (isLive x) (λ e. rw (e, entries-same p r)) (
 
 pub state-alike : (n : Counts) (u : State) → sound n u ≡ true → ReferenceAlike n u (referenceOf u)
 state-alike n u h = record {
-  ledger = record { allowed = sound-registers n u h; registers = λ strand number s k. refl; itlb = side 0; dtlb = side 1 };
+  ledger = record {
+    allowed = sound-registers n u h;
+    registers = λ strand number s k. refl;
+    itlb = side 0;
+    dtlb = side 1;
+    records = records-back (u .records) (sound-records n u h);
+  };
   places = record { at = λ side b. refl };
 }
   where
     side : (k : ℕ) → SideAlike (slotCount n k) (sideOf u k) (entriesIn (map placeIn (sideOf u k)))
     side k = record { size = sound-side n u h k .0; sound = sound-side n u h k .1; same = λ p. entries-same p (sideOf u k) }
+
+-- what a command leaves is described again, so it is sound
+pub step-sound : (n : Counts) (u : State) (c : Command) → sound n u ≡ true → sound n (step u c .state) ≡ true
+step-sound n u c h = alike-sound n _ _ (step-says n u (referenceOf u) c (state-alike n u h) .alike .ledger)
 
 -- what describes a state is good
 pub alike-good : {n : Counts} {u : State} {k : Reference} → ReferenceAlike n u k → ReferenceGood (slotCount n) k
@@ -218,6 +236,11 @@ module _ (n : Counts) (k : Reference) (g : ReferenceGood (slotCount n) k) where
     registers = row (λ i. k .ledger .registers (i / 32) (i % 32)) 128;
     itlb = map slotFor (k .places 0);
     dtlb = map slotFor (k .places 1);
+    records = record {
+      seen = seenWords (k .ledger .lookups);
+      newest = newestWords (k .ledger .lookups);
+      older = olderWords (k .ledger .lookups);
+    };
   }
 
   file-good : registersSound (stateFor .registers) ≡ true
@@ -248,7 +271,13 @@ module _ (n : Counts) (k : Reference) (g : ReferenceGood (slotCount n) k) where
 
   pub good-alike : ReferenceAlike n stateFor k
   good-alike = record {
-    ledger = record { allowed = file-good; registers = file-at; itlb = side-for 0 (omega arith); dtlb = side-for 1 (omega arith) };
+    ledger = record {
+      allowed = file-good;
+      registers = file-at;
+      itlb = side-for 0 (omega arith);
+      dtlb = side-for 1 (omega arith);
+      records = record { seen = refl; newest = refl; older = refl };
+    };
     places = record { at = stands };
   }
     where

@@ -9,7 +9,9 @@ pub mod State
 pub mod Bytes
 pub mod Runs
 pub mod Readable
+pub mod Record
 pub mod Alike
+pub mod Records
 pub mod Sides
 pub mod Questions
 pub mod Looks
@@ -27,4 +29,5 @@ pub mod Reference
 pub mod Demand1
 pub mod Demand2
 pub mod Frame
+pub mod Lookups
 pub mod Format

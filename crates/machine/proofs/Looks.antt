@@ -222,7 +222,7 @@ trapOf l b number type (effect.Written context) = trapWith l b context number ty
 
 -- an access before the lookup: both go on to it, or both have ended alike and left the slots
 pub data Early (n : Counts) (u : State) (a : Access) (p : Prepared) (ss : List (Bool × Written)) : Type 0 where
-  looks : p ≡ prepared.Lookup (lookupKey (u .registers) a) → anyOf (λ q. q .0) ss ≡ false → Early n u a p ss
+  looks : p ≡ prepared.Lookup → anyOf (λ q. q .0) ss ≡ false → Early n u a p ss
   ends : anyOf (λ q. q .0) ss ≡ true → SameSlots (settle u a p .state) u → ((last : Written) → StepAlike n (settle u a p) (firstFit ss last)) → Early n u a p ss
 
 -- where no step ends the access, the last does
@@ -342,7 +342,7 @@ module _ {n : Counts} {u : State} {l : Ledger} (k : Alike n u l) (q : Asked) (s 
       (looks refl refl)))))))
 
   -- an access is as its lookup is
-  pub access-alike : (last : Written) → StepAlike n (settle u a (prepared.Lookup (lookupKey (u .registers) a))) last
+  pub access-alike : (last : Written) → StepAlike n (settle u a prepared.Lookup) last
       → StepAlike n (accessTo u a) (firstFit (earlySteps l q) last)
   access-alike last j = go prepare-alike
     where

@@ -7,6 +7,7 @@ use Rattle.machine.specs.Slots.{slotsOf, wordsOf, pageMatch, isCompared,
 use Rattle.machine.specs.Insertion.{overlaps, removes, entryOf, wants, choice, inserted, placed, hasSlot}
 use Rattle.machine.specs.Sound.{ownerSound, pageSound, liveSound, emptySound, slotSound, sideSound}
 use Rattle.machine.specs.Registers.{known, writable, baseAllowed, configurationAllowed, allowed, registersSound, resetStrands}
+use Rattle.machine.specs.Record.{turned, pushed, put, recordSound, recordsSound}
 use Rattle.machine.specs.State.{stateOf, encode, reset, sideFits, sound, wordsSound}
 use Rattle.machine.specs.Questions.{asked, askedInsertion, ask, verdict}
 use Rattle.machine.specs.Access.{prepare, faultType, judge, trapRegisters}
@@ -19,7 +20,7 @@ pub printed-run : PrintedRun
 unfolding PrintedRun given printed allBelow count anyOf allOf pairwise firstFrom inRange listed pageShift wordSound
     wordInsertable frame physicalBy slotsOf wordsOf pageMatch isCompared answersTo lookup overlaps removes entryOf wants choice inserted placed
     hasSlot ownerSound pageSound liveSound emptySound slotSound sideSound known writable baseAllowed
-    configurationAllowed allowed registersSound resetStrands stateOf encode reset sideFits sound wordsSound asked askedInsertion
+    configurationAllowed allowed registersSound resetStrands turned pushed put recordSound recordsSound stateOf encode reset sideFits sound wordsSound asked askedInsertion
     ask verdict prepare faultType judge trapRegisters tsbOffset tsbPointer act step eight widthOf commandAt decodeAt
     answerBytes takes after answersBytes finish runOf
 printed-run = (refl, refl, refl, refl)

@@ -27,7 +27,8 @@ use Rattle.machine.specs.Tsb.{tsbOffset, tsbPointer, pointer}
 use Rattle.machine.specs.Stream.{answerBytes}
 use Rattle.machine.specs.Ledger.{Ledger, start, writes, pageBytes, codeListed, addressGood, wordGood}
 use Rattle.machine.specs.Ledger.{registerKnown, registerWritable, valueGood, contextPicked, tagOf, line}
-use Rattle.machine.specs.Ledger.{newEntry, firstNo, selectorGood, insertionQuestions, questions, pointerOf, pointers}
+use Rattle.machine.specs.Ledger.{newEntry, firstNo, selectorGood, insertionQuestions, questions, pointerOf, pointers, recent, thousandths}
+use Rattle.machine.specs.Places.{row, outcomesWord}
 use Rattle.machine.specs.Frame.{entryIn}
 use Rattle.machine.specs.Views.{View, view}
 use Rattle.machine.specs.Views as views
@@ -45,6 +46,7 @@ use Rattle.machine.proofs.State.{register-written, registers-written, s
 use Rattle.machine.proofs.State.{configuration-listed, sound-registers, reset-sound, passed-asked, known-below}
 use Rattle.machine.proofs.State.{writable-below, kind-side}
 use Rattle.machine.proofs.Bytes.{line-answer}
+use Rattle.machine.proofs.Records.{lookups-alike, rate-alike}
 use Rattle.machine.proofs.Alike.{SideAlike, Alike}
 
 ruleset conj = (and-left, and-right, eqb-true, ltb-true, leb-true)
@@ -239,7 +241,7 @@ numbered =
     Passed ∷ Passed ∷ Passed ∷ Passed ∷ Passed
     ∷ Refused refusal.Strand ∷ Refused refusal.Side ∷ Refused refusal.Selector ∷ Refused refusal.Operand ∷ Refused refusal.Register
     ∷ Refused refusal.Value ∷ Refused refusal.Address ∷ Refused refusal.Word ∷ Refused refusal.NoSlot
-    ∷ Refused refusal.Table ∷ []
+    ∷ Refused refusal.Table ∷ Refused refusal.NoLookup ∷ []
 
 verdict-back : (v : Verdict) → getD numbered (verdictNumber v) Passed ≡ v
 unfolding numbered
@@ -254,6 +256,7 @@ verdict-back (Refused refusal.Address) = refl
 verdict-back (Refused refusal.Word) = refl
 verdict-back (Refused refusal.NoSlot) = refl
 verdict-back (Refused refusal.Table) = refl
+verdict-back (Refused refusal.NoLookup) = refl
 
 -- verdicts are told apart by their numbers
 pub same-number : (v w : Verdict) → verdictNumber v ≡ verdictNumber w → v ≡ w
@@ -336,6 +339,9 @@ module _ {n : Counts} {u : State} {l : Ledger} (a : Alike n u l) where
       next (access-selector a strand (ltb-true _ _ s) kind selector) (λ _. next (size-good kind size) (λ _. done refl))))
   in-step (command.Read strand number) = next (at-most strand 3) (λ s. next (register-known number) (λ _. done refl))
   in-step (command.Pointers strand side) = next (at-most strand 3) (λ s. next (at-most side 1) (λ _. done refl))
+  in-step (command.Rate strand side) =
+      next (at-most strand 3) (λ s. next (at-most side 1) (λ d.
+      next (lookups-alike (a .records) strand side (ltb-true _ _ s) (ltb-true _ _ d)) (λ _. done refl)))
 
   first-refusal : (c : Command) → verdictNumber (verdict u c) ≡ cond (eqb (firstNo (questions l c)) 0) (cond (slotLeft u c) 0 13) (firstNo (questions l c))
   unfolding verdict
@@ -367,6 +373,7 @@ module _ {n : Counts} {u : State} {l : Ledger} (a : Alike n u l) where
         rw (register-written (u .registers) strand number value i k c r j, a .registers i k h j);
     itlb = a .itlb;
     dtlb = a .dtlb;
+    records = a .records;
   }
 
   -- writes, reads and pointers that passed
@@ -422,6 +429,13 @@ module _ {n : Counts} {u : State} {l : Ledger} (a : Alike n u l) where
       )
       (line-answer 3 _ _ (omega arith) (omega arith) (omega arith))
 
+  pub rate-bytes : (strand side : ℕ) → verdict u (command.Rate strand side) ≡ Passed
+      → answerBytes (act u (command.Rate strand side) .answer) ≡ line 3 0 0 0 (thousandths (recent l strand side)) 0
+  unfolding act answerBytes asked allOf
+  rate-bytes strand side v =
+      let q = passed-asked u (command.Rate strand side) v in
+      rw (rate-alike (a .records) strand side (search conj) (search conj)) (line-answer 3 _ 0 (omega arith) (omega arith) (omega arith))
+
 pub write-bytes : (u : State) (strand number value : ℕ) → answerBytes (act u (command.Write strand number value) .answer) ≡ line 0 0 0 0 0 0
 unfolding act answerBytes
 write-bytes u strand number value = line-answer 0 0 0 (omega arith) (omega arith) (omega arith)
@@ -439,12 +453,13 @@ unsound-bytes = line-answer 5 0 0 (omega arith) (omega arith) (omega arith)
 -- the 128 cells are compared by computing
 pub reset-alike : (n : Counts) → SideAlike (n .itlb) (replicate (n .itlb) noSlot) [] → SideAlike (n .dtlb) (replicate (n .dtlb) noSlot) []
     → Alike n (reset n) start
-unfolding reset resetStrands allBelow
+unfolding reset resetStrands allBelow row outcomesWord
 reset-alike n i d = record {
   allowed = sound-registers n (reset n) (reset-sound n);
   registers = λ strand number s r. eqb-true _ _ (below-at (λ k. same strand k) 32 number (below-at (λ j. allBelow (λ k. same j k) 32) 4 strand refl s) r);
   itlb = i;
   dtlb = d;
+  records = record { seen = refl; newest = refl; older = refl };
 }
   where
     same : ℕ → ℕ → Bool

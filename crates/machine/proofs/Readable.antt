@@ -105,11 +105,11 @@ module _ (s : List ℕ) (bytes : (i : ℕ) → getD s i 0 < 256) where
   is : (k : ℕ) → k ≤ getD s 0 0 → (k ≡ getD s 0 0 → Begins s) → (suc k ≤ getD s 0 0 → Begins s) → Begins s
   is k h f g = by-test (ltb k (getD s 0 0)) (λ e. g (ltb-true _ _ e)) (λ e. f (omega (arith, ltb-false k (getD s 0 0) e)))
 
-  begins : (ltb (getD s 0 0) 1 || ltb 9 (getD s 0 0)) ≡ false → Begins s
+  begins : (ltb (getD s 0 0) 1 || ltb 10 (getD s 0 0)) ≡ false → Begins s
   unfolding fits encoded front
   begins k =
       let at : ℕ → ℕ = λ i. getD s i 0 in
-      let u : at 0 ≤ 9 = ltb-false 9 (at 0) (or-right (ltb (at 0) 1) _ k) in
+      let u : at 0 ≤ 10 = ltb-false 10 (at 0) (or-right (ltb (at 0) 1) _ k) in
       is 1 (ltb-false (at 0) 1 (or-left (ltb (at 0) 1) _ k)) (λ e. (command.Write (at 1) (at 2) (eight 3 .0), 11, eight 3 .1, rw (eight 3 .2, e)))
       (λ l. is 2 l (λ e. (command.Insert (at 1) (at 2) (at 3) (eight 4 .0), 12, eight 4 .1, rw (eight 4 .2, e)))
       (λ l. is 3 l (λ e. (command.DemapPage (at 1) (at 2) (at 3) (at 4) (record { 0 = eight 5 .0 }), 13, eight 5 .1, rw (eight 5 .2, e)))
@@ -119,7 +119,8 @@ module _ (s : List ℕ) (bytes : (i : ℕ) → getD s i 0 < 256) where
       (λ l. is 7 l (λ e. (command.Access (at 1) (at 2) (at 3) (at 4) (record { 0 = eight 5 .0 }), 13, eight 5 .1, rw (eight 5 .2, e)))
       (λ l. is 8 l (λ e. (command.Read (at 1) (at 2), 3, refl, rw e))
       (λ l. is 9 l (λ e. (command.Pointers (at 1) (at 2), 3, refl, rw e))
-      (λ l. absurd (omega arith))))))))))
+      (λ l. is 10 l (λ e. (command.Rate (at 1) (at 2), 3, refl, rw e))
+      (λ l. absurd (omega arith)))))))))))
 
 -- ---- bytes can be read
 abbrev Some : List ℕ → ℕ → Type 0
@@ -149,7 +150,7 @@ module _ (s : List ℕ) (room : ℕ) where
 some : (turns : ℕ) (s : List ℕ) → ((i : ℕ) → getD s i 0 < 256) → (room : ℕ) → length s < turns → Some s room
 some zero s bytes room h = absurd (omega arith)
 some (suc turns) [] bytes room h = ([], [], 0, end)
-some (suc turns) (b ∷ s) bytes room h = by-test (ltb b 1 || ltb 9 b)
+some (suc turns) (b ∷ s) bytes room h = by-test (ltb b 1 || ltb 10 b)
     (λ k. ([], b ∷ s, 2, unknown k))
     (λ k. some-begun (b ∷ s) room (omega arith) (begins (b ∷ s) bytes k)
     (λ n l. some turns (drop n (b ∷ s)) (λ i. rw getD-drop (bytes (n + i))) (room - 24) (omega arith)))

@@ -85,6 +85,7 @@ module _ {n : Counts} {u : State} {k : Reference} (h : ReferenceAlike n u k) whe
   own-entered (command.Access strand kind selector size address) = refl
   own-entered (command.Read strand number) = refl
   own-entered (command.Pointers strand side) = refl
+  own-entered (command.Rate strand side) = refl
 
   own-next : (c : Command) → fedNext n u k c ≡ referenceNext (slotCount n) k c
   own-next c = ap (λ (w : Written). record { ledger = w .ledger; places = placesAfter (slotCount n) k c }) (own-entered c)

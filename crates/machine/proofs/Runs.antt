@@ -27,7 +27,7 @@ pub two-or-none : (b : ℕ) → (widthOf b ≡ 0 → ⊥) → 2 ≤ widthOf b
 unfolding widthOf
 two-or-none b =
     arm (eqb b 1) 11 tt (arm (eqb b 2) 12 tt (arm (eqb b 3) 13 tt (arm (eqb b 4) 4 tt (arm (eqb b 5) 3 tt
-    (arm (eqb b 6) 2 tt (arm (eqb b 7) 13 tt (arm (eqb b 8) 3 tt (arm (eqb b 9) 3 tt (λ h. absurd (h refl))))))))))
+    (arm (eqb b 6) 2 tt (arm (eqb b 7) 13 tt (arm (eqb b 8) 3 tt (arm (eqb b 9) 3 tt (arm (eqb b 10) 3 tt (λ h. absurd (h refl)))))))))))
   where
     arm : (b : Bool) (width : ℕ) {other : ℕ} → T (leb 2 width) → ((other ≡ 0 → ⊥) → 2 ≤ other)
         → (cond b width other ≡ 0 → ⊥) → 2 ≤ cond b width other

@@ -3,7 +3,7 @@
 use Prim.Native.Nat.{ℕ, _+_, _*_, _%_, _^_, _≤_, _<_}
 use mathlib.Core.Path.{_≡_, refl, ap, sym, _∙_}
 use mathlib.Core.Bool.{Bool, true, false, cond, _&&_}
-use mathlib.Core.List.{List, [], _∷_, _++_}
+use mathlib.Core.List.{List, [], _∷_, _++_, append-assoc}
 use native.Mathlib.Omega.{arith}
 use lib.Dec.{eqb, ltb}
 use lib.ListN.{length, getD, set, take, drop, replicate, length-set, length-append, length-drop, length-replicate, take-append-drop}
@@ -22,7 +22,8 @@ use Rattle.machine.specs.Sound.{slotSound, sideSound}
 use Rattle.machine.specs.Registers.{registerWords, cell, register, withRegister, partition, mode, addressMask}
 use Rattle.machine.specs.Registers.{selected, tagAccess, tagAddress, tagContext, known, writable, baseAllowed}
 use Rattle.machine.specs.Registers.{configurationAllowed, allowed, registersSound, resetStrands}
-use Rattle.machine.specs.State.{slotCount, Counts, State, sideOf, withSide, withRegisters, stateWords, stateOf}
+use Rattle.machine.specs.Record.{Records, recordCount, olderStart, recordSound, recordsSound}
+use Rattle.machine.specs.State.{slotCount, Counts, State, sideOf, withSide, withRegisters, recordStart, stateWords, stateOf}
 use Rattle.machine.specs.State.{encode, reset, sideFits, sound, wordsSound}
 use Rattle.machine.specs.Questions.{Question, kindSide, flagReal, flagLocked, keyOf, insertion, askedInsertion, asked, ask, verdict}
 use Rattle.machine.specs.Access.{judge, prepare, trapTag, trapRegisters, accessOf, translatedBy, settleJudged, settleLooked, settle}
@@ -150,7 +151,16 @@ strand-sound file strand h s =
       mask = ltb-true _ 2 (at 5 (omega arith));
     }
 
--- ---- soundness, taken apart and put together
+-- ---- soundness, taken apart
+-- a state with as many registers, slots and words of records as it should have
+pub record Sized (n : Counts) (u : State) : Type 0 where
+  pub registers : length (u .registers) ≡ registerWords
+  pub itlb : length (u .itlb) ≡ n .itlb
+  pub dtlb : length (u .dtlb) ≡ n .dtlb
+  pub seen : length (u .records .seen) ≡ recordCount
+  pub newest : length (u .records .newest) ≡ recordCount
+  pub older : length (u .records .older) ≡ olderStart recordCount
+
 module _ (n : Counts) (u : State) (h : sound n u ≡ true) where
   pub sound-registers : registersSound (u .registers) ≡ true
   unfolding sound
@@ -161,60 +171,88 @@ module _ (n : Counts) (u : State) (h : sound n u ≡ true) where
   unfolding sound sideFits
   sound-side side = by-test (eqb side 0) (λ e. rw e (search conj, search conj)) (λ e. rw e (search conj, search conj))
 
-  pub sound-lengths : (length (u .registers) ≡ registerWords) × (length (u .itlb) ≡ n .itlb) × (length (u .dtlb) ≡ n .dtlb)
-  sound-lengths = (sound-file (u .registers) sound-registers, sound-side 0 .0, sound-side 1 .0)
-
-  -- with other registers
-  pub sound-with-registers : (file : List ℕ) → registersSound file ≡ true → sound n (withRegisters u file) ≡ true
+  pub sound-records : recordsSound (u .records) ≡ true
   unfolding sound
-  sound-with-registers file e = and-both _ _ e (and-right (registersSound (u .registers)) _ h)
+  sound-records = search conj
 
-  -- with another side
-  pub sound-with-side : (side : ℕ) (s : List Slot) → length s ≡ length (sideOf u side) → sideSound s ≡ true → sound n (withSide u side s) ≡ true
-  unfolding sound sideFits
-  sound-with-side side s l e =
-      let fits : sideFits (slotCount n side) s ≡ true = and-both _ _ (eq-eqb _ _ (l ∙ sound-side side .0)) e in
-      let itlb : sideFits (n .itlb) (u .itlb) ≡ true = search conj in
-      let dtlb : sideFits (n .dtlb) (u .dtlb) ≡ true = search conj in
-      by-test (eqb side 0)
-      (λ z. rw z (and-both _ _ sound-registers (and-both _ _ (rw z at fits) dtlb)))
-      (λ z. rw z (and-both _ _ sound-registers (and-both _ _ itlb (rw z at fits))))
+  pub sound-sized : Sized n u
+  unfolding recordsSound
+  sound-sized = record {
+    registers = sound-file (u .registers) sound-registers;
+    itlb = sound-side 0 .0;
+    dtlb = sound-side 1 .0;
+    seen = let h = sound-records in search conj;
+    newest = let h = sound-records in search conj;
+    older = let h = sound-records in search conj;
+  }
 
 -- ---- a state and its words
-pub encode-length : (u : State) → length (encode u) ≡ length (u .registers) + length (u .itlb) * 4 + length (u .dtlb) * 4
+pub encode-length : (n : Counts) (u : State) → Sized n u → length (encode u) ≡ stateWords n
 unfolding encode
-encode-length u = simp length-append (omega (arith, words-length (u .itlb), words-length (u .dtlb)))
+encode-length n u z =
+    simp length-append
+    (omega (arith, words-length (u .itlb), words-length (u .dtlb), z .registers, z .itlb, z .dtlb, z .seen, z .newest, z .older))
 
-pub state-encode : (n : Counts) (u : State) → length (u .registers) ≡ registerWords → length (u .itlb) ≡ n .itlb → stateOf n (encode u) ≡ u
+-- the part of k words behind the first a
+part-at : (p q r : List ℕ) (a k : ℕ) → length p ≡ a → length q ≡ k → take k (drop a (p ++ (q ++ r))) ≡ q
+part-at p q r a k h l = ap (take k) (drop-at p (q ++ r) a h) ∙ take-at q r k l
+
+pub state-encode : (n : Counts) (u : State) → Sized n u → stateOf n (encode u) ≡ u
 unfolding stateOf encode
-state-encode n u r i =
-    let a : List ℕ = wordsOf (u .itlb) in
-    let b : List ℕ = wordsOf (u .dtlb) in
-    let past : drop registerWords (u .registers ++ (a ++ b)) ≡ a ++ b = drop-at (u .registers) (a ++ b) registerWords r in
-    let l : length a ≡ n .itlb * 4 = omega (arith, words-length (u .itlb)) in
-    let rest : drop (registerWords + n .itlb * 4) (u .registers ++ (a ++ b)) ≡ b =
-    sym (drop-drop (n .itlb * 4) registerWords (u .registers ++ (a ++ b))) ∙ rw past (drop-at a b (n .itlb * 4) l) in
-    rw (rest, past, take-at (u .registers) (a ++ b) registerWords r, take-at a b (n .itlb * 4) l, slots-back (u .itlb), slots-back (u .dtlb))
+state-encode n u z =
+    let x : Records = u .records in
+    let i : List ℕ = wordsOf (u .itlb) in
+    let d : List ℕ = wordsOf (u .dtlb) in
+    let records : List ℕ = x .seen ++ (x .newest ++ x .older) in
+    let front2 : List ℕ = u .registers ++ i in
+    let front3 : List ℕ = front2 ++ d in
+    let front4 : List ℕ = front3 ++ x .seen in
+    let li : length i ≡ n .itlb * 4 = omega (arith, words-length (u .itlb), z .itlb) in
+    let ld : length d ≡ n .dtlb * 4 = omega (arith, words-length (u .dtlb), z .dtlb) in
+    let l2 : length front2 ≡ registerWords + n .itlb * 4 = length-append (u .registers) i ∙ omega (arith, z .registers) in
+    let l3 : length front3 ≡ recordStart n = length-append front2 d ∙ omega arith in
+    let l4 : length front4 ≡ recordStart n + recordCount = length-append front3 (x .seen) ∙ omega (arith, z .seen) in
+    let l5 : length (front4 ++ x .newest) ≡ recordStart n + recordCount + recordCount = length-append front4 (x .newest) ∙ omega (arith, z .newest) in
+    let e2 : encode u ≡ front2 ++ (d ++ records) = sym (append-assoc (u .registers) i (d ++ records)) in
+    let e3 : encode u ≡ front3 ++ records = e2 ∙ sym (append-assoc front2 d records) in
+    let e4 : encode u ≡ front4 ++ (x .newest ++ x .older) = e3 ∙ sym (append-assoc front3 (x .seen) (x .newest ++ x .older)) in
+    let e5 : encode u ≡ (front4 ++ x .newest) ++ x .older = e4 ∙ sym (append-assoc front4 (x .newest) (x .older)) in
+    let registers : take registerWords (encode u) ≡ u .registers = take-at (u .registers) _ registerWords (z .registers) in
+    let itlb : take (n .itlb * 4) (drop registerWords (encode u)) ≡ i = part-at (u .registers) i (d ++ records) _ _ (z .registers) li in
+    let dtlb : take (n .dtlb * 4) (drop (registerWords + n .itlb * 4) (encode u)) ≡ d = rw e2 (part-at front2 d records _ _ l2 ld) in
+    let seen : take recordCount (drop (recordStart n) (encode u)) ≡ x .seen = rw e3 (part-at front3 (x .seen) _ _ _ l3 (z .seen)) in
+    let newest : take recordCount (drop (recordStart n + recordCount) (encode u)) ≡ x .newest =
+    rw e4 (part-at front4 (x .newest) (x .older) _ _ l4 (z .newest)) in
+    let older : drop (recordStart n + recordCount + recordCount) (encode u) ≡ x .older = rw e5 (drop-at (front4 ++ x .newest) (x .older) _ l5) in
+    rw (registers, itlb, dtlb, seen, newest, older, slots-back (u .itlb), slots-back (u .dtlb))
+
+-- a part and what is behind it
+pub cut : (a k : ℕ) (words : List ℕ) → take k (drop a words) ++ drop (a + k) words ≡ drop a words
+cut a k words = ap (λ (r : List ℕ). take k (drop a words) ++ r) (sym (drop-drop k a words)) ∙ take-append-drop k (drop a words)
 
 pub encode-state : (n : Counts) (words : List ℕ) → length words ≡ stateWords n → encode (stateOf n words) ≡ words
 unfolding stateOf encode
 encode-state n words h =
-    let k : ℕ = n .itlb * 4 in
-    let rest : List ℕ = drop registerWords words in
-    let l : length rest ≡ k + n .dtlb * 4 = length-drop registerWords words ∙ omega arith in
-    let i : wordsOf (slotsOf (take k rest)) ≡ take k rest = words-back (take k rest) (omega (arith, length-take-le k rest (omega arith))) in
-    let d : wordsOf (slotsOf (drop k rest)) ≡ drop k rest = words-back (drop k rest) (omega (arith, length-drop k rest)) in
-    rw (← (drop-drop k registerWords words), i, d, take-append-drop k rest) (take-append-drop registerWords words)
+    let start : ℕ = recordStart n in
+    let side : (a k : ℕ) → a + k * 4 ≤ length words → wordsOf (slotsOf (take (k * 4) (drop a words))) ≡ take (k * 4) (drop a words) =
+    λ a k l. words-back (take (k * 4) (drop a words)) (omega (arith, length-take-le (k * 4) (drop a words) (omega (arith, length-drop a words)))) in
+    rw (
+      side registerWords (n .itlb) (omega arith),
+      side (registerWords + n .itlb * 4) (n .dtlb) (omega arith),
+      cut (start + recordCount) recordCount words,
+      cut start recordCount words,
+      cut (registerWords + n .itlb * 4) (n .dtlb * 4) words,
+      cut registerWords (n .itlb * 4) words,
+    )
+    (take-append-drop registerWords words)
 
 -- a sound state stands in words that are sound
 pub sound-encode : (n : Counts) (u : State) → sound n u ≡ true → stateOf n (encode u) ≡ u
-sound-encode n u h = state-encode n u (sound-lengths n u h .0) (sound-lengths n u h .1)
+sound-encode n u h = state-encode n u (sound-sized n u h)
 
 pub words-sound : (n : Counts) (u : State) → sound n u ≡ true → wordsSound n (encode u) ≡ true
 unfolding wordsSound
-words-sound n u h =
-    let l = sound-lengths n u h in
-    and-both _ _ (eq-eqb _ _ (encode-length u ∙ omega arith)) (rw (sound-encode n u h) h)
+words-sound n u h = and-both _ _ (eq-eqb _ _ (encode-length n u (sound-sized n u h))) (rw (sound-encode n u h) h)
 
 pub sound-words : (n : Counts) (words : List ℕ) → wordsSound n words ≡ true → (sound n (stateOf n words) ≡ true) × (length words ≡ stateWords n)
 unfolding wordsSound
@@ -222,8 +260,8 @@ sound-words n words h = (and-right (eqb (length words) (stateWords n)) _ h, eqb-
 
 -- ---- reset
 pub reset-sound : (n : Counts) → sound n (reset n) ≡ true
-unfolding sound reset sideFits registersSound allBelow allowed configurationAllowed listed resetStrands baseAllowed
-reset-sound n = and-both _ _ refl (and-both _ _ (side (n .itlb)) (side (n .dtlb)))
+unfolding sound reset sideFits registersSound allBelow allowed configurationAllowed listed resetStrands baseAllowed recordsSound recordSound
+reset-sound n = and-both _ _ refl (and-both _ _ (side (n .itlb)) (and-both _ _ (side (n .dtlb)) refl))
   where
     side : (k : ℕ) → (eqb (length (replicate k noSlot)) k && sideSound (replicate k noSlot)) ≡ true
     side k = and-both _ _ (eq-eqb _ _ (length-replicate k noSlot)) (empty-sound k)
@@ -282,7 +320,7 @@ pub writable-below : (number : ℕ) → writable number ≡ true → number < 22
 unfolding writable
 writable-below number h = ltb-true number 22 (and-left _ (known number) h)
 
--- ---- soundness is kept
+-- ---- the slot of an insertion
 pub key-address : (real : Bool) (partition context : ℕ) (address : VirtualAddress) → keyAddress (keyOf real partition context address) ≡ address .0
 key-address true partition context address = refl
 key-address false partition context address = refl
@@ -298,97 +336,3 @@ insertion-sound u strand side flags word a w =
 
 pub kind-side : (kind : ℕ) → kindSide kind < 2
 kind-side kind = by-test (eqb kind 0) (λ e. rw e (omega arith)) (λ e. rw e (omega arith))
-
--- the registers after a trap
-pub trap-sound : (file : List ℕ) (a : Access) (t : Trap) (tag : Tag) → registersSound file ≡ true → a .strand < 4 → a .side < 2
-    → registersSound (trapRegisters file a t tag) ≡ true
-unfolding trapRegisters
-trap-sound file a t tag h s d = tagged tag
-  where
-    -- register 20, 22 or 24 of the side
-    writes : (f : List ℕ) (k value : ℕ) → registersSound f ≡ true → k ≤ 4 → registersSound (withRegister f (a .strand) (20 + k + a .side) value) ≡ true
-    writes f k value e l =
-        registers-written f (a .strand) _ value e s (omega arith) (allowed-any _ value (omega arith) (omega arith))
-
-    untagged : registersSound (trapRegisters file a t effect.Kept) ≡ true
-    untagged = writes _ 4 _ (writes file 2 _ h (omega arith)) (omega arith)
-
-    tagged : (tag : Tag) → registersSound (trapRegisters file a t tag) ≡ true
-    tagged effect.Kept = untagged
-    tagged (effect.Written context) = writes _ 0 _ untagged (omega arith)
-
-removed-sound : (n : Counts) (u : State) (side : ℕ) (which : Removal) → sound n u ≡ true → sound n (demap u side which .state) ≡ true
-removed-sound n u side which h =
-    sound-with-side n u h side _ (length-removed (removes which) (sideOf u side)) (sound-removed (removes which) (sideOf u side) (sound-side n u h side .1))
-
--- the entry that a search found, marked
-pub marked-sound : (n : Counts) (u : State) (side i : ℕ) (key : Key) → sound n u ≡ true → first (answersTo key) (sideOf u side) ≡ At i
-    → sound n (withSide u side (setUsed i (sideOf u side))) ≡ true
-marked-sound n u side i key h e =
-    let s : List Slot = sideOf u side in
-    let live : isLive (getD s i noSlot) ≡ true = answers-live key _ (found-at noSlot (answersTo key) s i e .1) in
-    sound-with-side n u h side _ (length-set s i _) (sound-set-used s i (sound-side n u h side .1) live)
-
--- the slots of a sound state with other registers
-same-sound : (n : Counts) (u v : State) → sound n u ≡ true → SameSlots v u → registersSound (v .registers) ≡ true → sound n v ≡ true
-unfolding sound
-same-sound n u v h (i, d) r = and-both _ _ r (rw (i, d) (and-right (registersSound (u .registers)) _ h))
-
--- an access of a known strand, from where it stops
-module _ (n : Counts) (a : Access) (s : a .strand < 4) (d : a .side < 2) where
-  judged-registers : (u : State) (p : Translation) (j : Judged) → registersSound (u .registers) ≡ true
-      → registersSound (settleJudged u a p j .state .registers) ≡ true
-  judged-registers u p (judged.Faulted t) h = trap-sound (u .registers) a t (trapTag (u .registers) a) h s d
-  judged-registers u p judged.Permitted h = h
-
-  looked-sound : (u : State) (key : Key) → sound n u ≡ true → sound n (settleLooked u a (lookup key (sideOf u (a .side))) .state) ≡ true
-  looked-sound u key h =
-      let side : ℕ = a .side in
-      looked-by key (sideOf u side) (λ f. sound n (settleLooked u a f .state) ≡ true)
-      (λ e. same-sound n u _ h (refl, refl) (trap-sound (u .registers) a _ _ (sound-registers n u h) s d))
-      (λ i e.
-      let word : ℕ = getD (sideOf u side) i noSlot .word in
-      let r : Reach = reachOf word (keyAddress key) in
-      same-sound n (withSide u side (setUsed i (sideOf u side))) _ (marked-sound n u side i key h e) (hit-slots u a i r)
-      (judged-registers _ (translatedBy word r) (judge (u .registers) a word) (sound-registers n u h)))
-
-  settled-sound : (u : State) (p : Prepared) → sound n u ≡ true → sound n (settle u a p .state) ≡ true
-  settled-sound u (prepared.Stopped t tag) h = same-sound n u _ h (refl, refl) (trap-sound (u .registers) a t tag (sound-registers n u h) s d)
-  settled-sound u (prepared.Bypass p) h = same-sound n u _ h (refl, refl) (sound-registers n u h)
-  settled-sound u (prepared.Lookup key) h = looked-sound u key h
-
--- every command that no question refused
-pub act-sound : (n : Counts) (u : State) (c : Command) → sound n u ≡ true → verdict u c ≡ Passed → sound n (act u c .state) ≡ true
-unfolding act asked allOf
-act-sound n u (command.Write strand number value) h v =
-    let q = passed-asked u (command.Write strand number value) v in
-    let s : strand < 4 = search conj in
-    let w : writable number ≡ true = search conj in
-    let a : allowed number value ≡ true = search conj in
-    sound-with-registers n u h _ (registers-written (u .registers) strand number value (sound-registers n u h) s (omega (arith, writable-below number w)) a)
-act-sound n u (command.Insert strand side flags word) h v =
-    let new : Slot = insertion u strand side flags word in
-    let (s, d, i) = insert-insertable u strand side flags word v in
-    sound-with-side n u h side _ (length-inserted candidate new (sideOf u side))
-    (sound-inserted new (insertion-sound u strand side flags word (i .address) (i .tte)) candidate (sideOf u side) (sound-side n u h side .1))
-act-sound n u (command.DemapPage strand side selector flags address) h v =
-    removed-sound n u side (removal.Page (keyOf (flagReal flags) (partition (u .registers) strand) (selected (u .registers) strand selector) address)) h
-act-sound n u (command.DemapContext strand side selector) h v =
-    removed-sound n u side (removal.Context (partition (u .registers) strand) (selected (u .registers) strand selector)) h
-act-sound n u (command.DemapAll strand side) h v = removed-sound n u side (removal.Unlocked (partition (u .registers) strand)) h
-act-sound n u (command.Invalidate side) h v = removed-sound n u side removal.Everything h
-act-sound n u (command.Access strand kind selector size address) h v =
-    let q = passed-asked u (command.Access strand kind selector size address) v in
-    let s : strand < 4 = search conj in
-    let a : Access = accessOf (u .registers) strand kind selector size address in
-    settled-sound n a s (kind-side kind) u (prepare (u .registers) a) h
-act-sound n u (command.Read strand number) h v = h
-act-sound n u (command.Pointers strand side) h v = h
-
-pub step-sound : (n : Counts) (u : State) (c : Command) → sound n u ≡ true → sound n (step u c .state) ≡ true
-unfolding step
-step-sound n u c h = go (verdict u c) refl
-  where
-    go : (v : Verdict) → verdict u c ≡ v → sound n (stepBy v u c .state) ≡ true
-    go Passed e = act-sound n u c h e
-    go (Refused r) e = h

@@ -20,6 +20,7 @@ by-view i a o (command.Invalidate side) = o _ refl
 by-view i a o (command.Access strand kind selector size address) = a strand kind selector size address
 by-view i a o (command.Read strand number) = o _ refl
 by-view i a o (command.Pointers strand side) = o _ refl
+by-view i a o (command.Rate strand side) = o _ refl
 
 -- an insertion is apart: it may find no slot
 abbrev pub Plain : View → Type 0

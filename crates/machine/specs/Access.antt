@@ -11,7 +11,8 @@ use Rattle.machine.specs.Slots.{noSlot, Looked, hit, miss, lookup, setUs
 use Rattle.machine.specs.Registers.{register, withRegister, partition, mode, translates, addressMask, selected}
 use Rattle.machine.specs.Registers.{tagNumber, tagOf, faultAddressNumber, faultNumber}
 use Rattle.machine.specs.Questions.{kindSide, keyOf}
-use Rattle.machine.specs.State.{State, sideOf, withSide, withRegisters}
+use Rattle.machine.specs.Record.{recordOf, noted}
+use Rattle.machine.specs.State.{State, sideOf, withSide, withRegisters, withRecords}
 use Rattle.machine.specs.declared.Slot.{Slot}
 use Rattle.machine.specs.declared.Key.{Key}
 use Rattle.machine.specs.declared.VirtualAddress.{VirtualAddress}
@@ -66,7 +67,7 @@ prepareBypass kind a =
     (cond (eqb kind 3) (prepared.Stopped (trap.DataAccessException 0x04) (effect.Written 0))
     (prepared.Bypass (bypassTo a))))
 
--- step 5: with translation off the key is real, and asks for no context
+-- step 5: what is looked up. With translation off the key is real, and asks for no context
 abbrev pub lookupKey : List ℕ → Access → Key
 lookupKey file a =
     keyOf (not (translates file (a .strand) (a .side))) (partition file (a .strand)) (selected file (a .strand) (a .selector)) (a .used)
@@ -82,7 +83,7 @@ prepare file a =
     -- 4. an address out of range has fault type 0x20
     (cond (not (inRange (a .used .0))) (prepared.Stopped (exception (a .kind) 0x20) (trapTag file a))
     -- 5. all others look up
-    (prepared.Lookup (lookupKey file a)))))
+    prepared.Lookup)))
 
 -- step 5 with no entry found: the trap goes by the kind of address looked up and by the side
 abbrev pub missTrap : List ℕ → Access → Trap
@@ -181,10 +182,21 @@ settleLooked u a (hit i r) =
     let word : ℕ = getD s i noSlot .word in
     settleJudged (withSide u (a .side) (setUsed i s)) a (translatedBy word r) (judge (u .registers) a word)
 
+-- document 02, U5: a lookup that finds an entry is no miss, whatever comes of it
+abbrev pub missed : Looked → ℕ
+missed miss = 1
+missed (hit i r) = 0
+
+-- the outcome is noted for the strand and side of the access
+abbrev pub outcomeNoted : Access → ℕ → Stepped → Stepped
+outcomeNoted a outcome s = stepped (withRecords (s .state) (noted (recordOf (a .strand) (a .side)) outcome (s .state .records))) (s .answer)
+
 abbrev pub settle : State → Access → Prepared → Stepped
 settle u a (prepared.Stopped t tag) = trapTo u a t tag
 settle u a (prepared.Bypass p) = stepped u (answer.Physical p)
-settle u a (prepared.Lookup key) = settleLooked u a (lookup key (sideOf u (a .side)))
+settle u a prepared.Lookup =
+    let found : Looked = lookup (lookupKey (u .registers) a) (sideOf u (a .side)) in
+    outcomeNoted a (missed found) (settleLooked u a found)
 
 abbrev pub accessTo : State → Access → Stepped
 accessTo u a = settle u a (prepare (u .registers) a)

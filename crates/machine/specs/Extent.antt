@@ -31,6 +31,7 @@ disturbs strand side (command.Invalidate k) = eqb k side
 disturbs strand side (command.Access s kind selector size address) = false
 disturbs strand side (command.Read s number) = false
 disturbs strand side (command.Pointers s k) = false
+disturbs strand side (command.Rate s k) = false
 
 pub record Extent (n : Counts) : Type 0 where
   -- an access was answered with a physical address and a page's size code. Then every aligned address in the page of that size around it gets, by the same

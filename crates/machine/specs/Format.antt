@@ -24,6 +24,8 @@ encoded (command.Invalidate side) = 0x06 ∷ side ∷ []
 encoded (command.Access strand kind selector size address) = 0x07 ∷ strand ∷ kind ∷ selector ∷ size ∷ bigEndian 8 (address .0)
 encoded (command.Read strand register) = 0x08 ∷ strand ∷ register ∷ []
 encoded (command.Pointers strand side) = 0x09 ∷ strand ∷ side ∷ []
+-- document 02, U5
+encoded (command.Rate strand side) = 0x0A ∷ strand ∷ side ∷ []
 
 -- the operand marked 8 fits its eight bytes; an operand of one byte is written as it is
 unfoldable pub fits : Command → Bool
@@ -36,6 +38,7 @@ fits (command.Invalidate side) = true
 fits (command.Access strand kind selector size address) = ltb (address .0) (2 ^ 64)
 fits (command.Read strand register) = true
 fits (command.Pointers strand side) = true
+fits (command.Rate strand side) = true
 
 -- ---- what a run takes
 -- of bytes, with room for answers: the commands that a run takes, the bytes that it leaves, and why it ends ("The ledger", second paragraph)
@@ -43,7 +46,7 @@ pub data Reads : List ℕ → ℕ → List Command → List ℕ → ℕ → Type
   -- 0: no byte is left
   end : {room : ℕ} → Reads [] room [] [] 0
   -- number 2: the byte is no command's
-  unknown : {b room : ℕ} {r : List ℕ} → (ltb b 1 || ltb 9 b) ≡ true → Reads (b ∷ r) room [] (b ∷ r) 2
+  unknown : {b room : ℕ} {r : List ℕ} → (ltb b 1 || ltb 10 b) ≡ true → Reads (b ∷ r) room [] (b ∷ r) 2
   -- number 3: a command cut off behind its first byte
   short : {room : ℕ} {q : List ℕ} (c : Command) (r : List ℕ) → encoded c ≡ q ++ r → 1 ≤ length q → 1 ≤ length r → Reads q room [] q 3
   -- number 4: a whole command, and room for less than an answer
@@ -69,6 +72,6 @@ pub record Decodes : Type 0 where
   -- a command written there is the command read, of its width
   pub known : (p r : List ℕ) (c : Command) → fits c ≡ true → decodeAt (p ++ (encoded c ++ r)) (length p) ≡ Known c (length (encoded c))
   -- number 2: the byte is no command's
-  pub unknown : (s : List ℕ) (at : ℕ) → (ltb (getD s at 0) 1 || ltb 9 (getD s at 0)) ≡ true → decodeAt s at ≡ Stop 2
+  pub unknown : (s : List ℕ) (at : ℕ) → (ltb (getD s at 0) 1 || ltb 10 (getD s at 0)) ≡ true → decodeAt s at ≡ Stop 2
   -- number 3: a command cut off after its first byte
   pub short : (p q r : List ℕ) (c : Command) → encoded c ≡ q ++ r → 1 ≤ length q → 1 ≤ length r → decodeAt (p ++ q) (length p) ≡ Stop 3

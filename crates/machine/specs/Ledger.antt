@@ -2,7 +2,7 @@
 -- shares the type of a decoded command and the kit's library (lists, booleans, comparisons); its own list functions are in laws/specs/Passing.
 -- Assumes nothing.
 use Prim.Native.Nat.{ℕ, zero, suc, _+_, _*_, _-_, _/_, _%_, _^_}
-use mathlib.Core.Bool.{Bool, true, not, cond, _&&_, _||_, Bool·beq}
+use mathlib.Core.Bool.{Bool, true, false, not, cond, _&&_, _||_, Bool·beq}
 use mathlib.Core.Option.{Option, none, some}
 use mathlib.Core.List.{List, [], _∷_, _++_}
 use lib.Dec.{eqb, leb, ltb}
@@ -20,23 +20,33 @@ pub record Entry : Type 0 where
   pub locked : Bool
   pub word : ℕ
 
--- registers by strand and number; entries by side, the newest last
+-- registers by strand and number; entries by side, the newest last; lookups by strand and side, the newest first, each with whether it missed. No lookup since
+-- reset is ever struck (document 02, U5)
 pub record Ledger : Type 0 where
   pub registers : ℕ → ℕ → ℕ
   pub entries : ℕ → List Entry
+  pub lookups : ℕ → ℕ → List Bool
 
--- as reset leaves it: mode 2, all other registers 0, no entries
+-- as reset leaves it: mode 2, all other registers 0, no entries, no lookups
 abbrev pub start : Ledger
-start = record { registers = λ strand number. cond (eqb number 3) 2 0; entries = λ side. [] }
+start = record { registers = λ strand number. cond (eqb number 3) 2 0; entries = λ side. []; lookups = λ strand side. [] }
 
 abbrev pub writes : Ledger → ℕ → ℕ → ℕ → Ledger
 writes l strand number value = record {
   registers = λ s r. cond (eqb s strand && eqb r number) value (l .registers s r);
   entries = l .entries;
+  lookups = l .lookups;
 }
 
 abbrev pub withEntries : Ledger → ℕ → List Entry → Ledger
-withEntries l side m = record { registers = l .registers; entries = λ k. cond (eqb k side) m (l .entries k) }
+withEntries l side m = record { registers = l .registers; entries = λ k. cond (eqb k side) m (l .entries k); lookups = l .lookups }
+
+abbrev pub withLookup : Ledger → ℕ → ℕ → Bool → Ledger
+withLookup l strand side missed = record {
+  registers = l .registers;
+  entries = l .entries;
+  lookups = λ s d. cond (eqb s strand && eqb d side) (missed ∷ l .lookups s d) (l .lookups s d);
+}
 
 -- ---- pages and words
 -- bytes of a page by size code
@@ -173,7 +183,11 @@ selectorGood side selector = leb selector 2 && not (eqb selector 1 && eqb side 0
 unfoldable pub insertionQuestions : Ledger → ℕ → ℕ → ℕ → List (ℕ × Bool)
 insertionQuestions l strand side word = (11, addressGood (tagOf l strand side - tagOf l strand side % 8192)) ∷ (12, wordGood word) ∷ []
 
--- 5 to 12
+-- the lookups that the miss rate is taken of: the last 1,024
+abbrev pub recent : Ledger → ℕ → ℕ → List Bool
+recent l strand side = take 1024 (l .lookups strand side)
+
+-- 5 to 12, and 15
 unfoldable pub questions : Ledger → Command → List (ℕ × Bool)
 questions l (command.Write strand number value) = (5, leb strand 3) ∷ (9, registerWritable number) ∷ (10, valueGood number value) ∷ []
 questions l (command.Insert strand side flags word) =
@@ -189,6 +203,7 @@ questions l (command.Access strand kind selector size address) =
     ∷ (8, leb size 3 && (not (eqb kind 0) || eqb size 2)) ∷ []
 questions l (command.Read strand number) = (5, leb strand 3) ∷ (9, registerKnown number) ∷ []
 questions l (command.Pointers strand side) = (5, leb strand 3) ∷ (6, leb side 1) ∷ []
+questions l (command.Rate strand side) = (5, leb strand 3) ∷ (6, leb side 1) ∷ (15, leb 1 (length (recent l strand side))) ∷ []
 
 -- 13: as many entries as slots, none of them unlocked, and none that the new one overlaps
 abbrev pub lacksSlot : ℕ → Entry → List Entry → Bool
@@ -321,9 +336,13 @@ hits l a e =
     (answers l
     (line 1 (bit 10 word + 2 * bit 11 word + 4 * bit 12 word) 0 (word % 16) (address - address % pageBytes word + a .used % pageBytes word) 0))
 
+-- the lookup is put down with its outcome
+abbrev pub puts : Asked → Bool → Written → Written
+puts a missed w = answers (withLookup (w .ledger) (a .strand) (askedSide a) missed) (w .bytes)
+
 abbrev pub lookedUp : Ledger → Asked → Option Entry → Written
-lookedUp l a none = misses l a
-lookedUp l a (some e) = hits l a e
+lookedUp l a none = puts a true (misses l a)
+lookedUp l a (some e) = puts a false (hits l a e)
 
 -- an access: steps 1 to 4 in order; if none ends it, steps 5 to 8 on the list of its side
 unfoldable pub accesses : Ledger → Asked → Written
@@ -353,6 +372,11 @@ pointers l strand side =
     answers l (line 3 0 0 0 (pointerOf (baseOf l strand side 0) (configuration % 8) (tag - tag % 8192))
     (pointerOf (baseOf l strand side 1) (configuration / 256 % 8) (tag - tag % 8192)))
 
+-- ---- the miss rate
+-- of every thousand lookups so many that missed; what is left of the last one is dropped
+unfoldable pub thousandths : List Bool → ℕ
+thousandths m = 1000 * howMany (λ missed. missed) m / length m
+
 -- ---- one command: what the ledger does that no question refused. n is the slot count of each side; d the entry that the unit's answer names
 unfoldable pub does : (ℕ → ℕ) → Ledger → Command → Name → Written
 does n l (command.Write strand number value) d = answers (writes l strand number value) (line 0 0 0 0 0 0)
@@ -366,6 +390,7 @@ does n l (command.Access strand kind selector size address) d =
     accesses l (record { strand = strand; kind = kind; selector = selector; size = size; used = usedAddress l strand (address .0) })
 does n l (command.Read strand number) d = answers l (line 3 0 0 0 (l .registers strand number) 0)
 does n l (command.Pointers strand side) d = pointers l strand side
+does n l (command.Rate strand side) d = answers l (line 3 0 0 0 (thousandths (recent l strand side)) 0)
 
 -- a command, by the first question that is answered no; if there is one, the ledger stays
 unfoldable pub enters : (ℕ → ℕ) → Ledger → Command → Name → Written

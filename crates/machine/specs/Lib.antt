@@ -4,6 +4,7 @@ pub mod Slots
 pub mod Insertion
 pub mod Sound
 pub mod Registers
+pub mod Record
 pub mod State
 pub mod Questions
 pub mod Access
@@ -23,4 +24,5 @@ pub mod Demand1
 pub mod Demand2
 pub mod Examples
 pub mod Frame
+pub mod Lookups
 pub mod Format

@@ -1,12 +1,12 @@
 -- Document 01's slots and marks (used bits) as their own text, beside the ledger: what each command does to the places of a side, whom an insertion displaces,
 -- and the words in which a caller sees it all. It goes by the ledger's registers, lists and tests, and by nothing of the unit.
 -- Assumes nothing.
-use Prim.Native.Nat.{ℕ, zero, suc, _+_, _*_, _/_, _%_, _^_}
+use Prim.Native.Nat.{ℕ, zero, suc, _+_, _*_, _-_, _/_, _%_, _^_}
 use mathlib.Core.Bool.{Bool, true, false, not, cond, _&&_, _||_}
 use mathlib.Core.Option.{Option, none, some}
 use mathlib.Core.List.{List, [], _∷_, _++_, map}
-use lib.Dec.{eqb}
-use lib.ListN.{replicate}
+use lib.Dec.{eqb, leb}
+use lib.ListN.{length, take, drop, replicate}
 use Rattle.laws.specs.Passing.{nonePasses, find}
 use Rattle.machine.specs.Ledger.{Entry, Ledger, start, unlocked, overlap, contextPicked, oneIf, Name, newEntry}
 use Rattle.machine.specs.Ledger.{firstNo, questions, lacksSlot, isAt, inContext, inPartition, Asked, usedAddress}
@@ -108,6 +108,7 @@ moved n k (command.Access strand kind selector size address) =
     accessed k (record { strand = strand; kind = kind; selector = selector; size = size; used = usedAddress (k .ledger) strand (address .0) })
 moved n k (command.Read strand number) = k .places
 moved n k (command.Pointers strand side) = k .places
+moved n k (command.Rate strand side) = k .places
 
 -- a refused command leaves them
 unfoldable pub placesAfter : (ℕ → ℕ) → Reference → Command → ℕ → List Place
@@ -153,6 +154,41 @@ unfoldable pub row : (ℕ → ℕ) → ℕ → List ℕ
 row f zero = []
 row f (suc n) = row f n ++ (f n ∷ [])
 
--- 32 cells for each of the four strands, a register in the cell of its number; then side 0 and side 1
+-- a strand's lookups on a side (document 02, U5), in words of 64: the outcomes of some, the first in the lowest bit
+unfoldable pub outcomesWord : List Bool → ℕ
+outcomesWord [] = 0
+outcomesWord (missed ∷ m) = oneIf missed + 2 * outcomesWord m
+
+-- the newest word has what is left of all lookups by full words of 64, or a full one; and, above them, the oldest of the last 1,024
+abbrev pub newestPart : List Bool → ℕ
+newestPart m = length m - (length m - 1) / 64 * 64
+
+abbrev pub newestWord : List Bool → ℕ
+newestWord m = outcomesWord (take (newestPart m) m ++ drop (newestPart m + 960) (take 1024 m))
+
+-- those between fill fifteen words
+abbrev pub olderWord : List Bool → ℕ → ℕ
+olderWord m j = outcomesWord (take 64 (drop (newestPart m + 64 * j) m))
+
+-- their number; from 1,024 on, only how many the newest word has is told
+abbrev pub seenWord : List Bool → ℕ
+seenWord m = cond (leb (length m) 1024) (length m) (1024 + newestPart m)
+
+-- strand by strand, and for either side of each
+abbrev pub seenWords : (ℕ → ℕ → List Bool) → List ℕ
+seenWords lookups = row (λ r. seenWord (lookups (r / 2) (r % 2))) 8
+
+abbrev pub newestWords : (ℕ → ℕ → List Bool) → List ℕ
+newestWords lookups = row (λ r. newestWord (lookups (r / 2) (r % 2))) 8
+
+abbrev pub olderWords : (ℕ → ℕ → List Bool) → List ℕ
+olderWords lookups = row (λ i. olderWord (lookups (i / 15 / 2) (i / 15 % 2)) (i % 15)) 120
+
+-- 32 cells for each of the four strands, a register in the cell of its number; then side 0 and side 1; then the lookups: their numbers, the newest words, the older
+-- ones
 unfoldable pub referenceWords : Reference → List ℕ
-referenceWords k = row (λ i. k .ledger .registers (i / 32) (i % 32)) 128 ++ (sideWords (k .places 0) ++ sideWords (k .places 1))
+referenceWords k =
+    row (λ i. k .ledger .registers (i / 32) (i % 32)) 128
+    ++ (sideWords (k .places 0)
+    ++ (sideWords (k .places 1)
+    ++ (seenWords (k .ledger .lookups) ++ (newestWords (k .ledger .lookups) ++ olderWords (k .ledger .lookups)))))

@@ -1,13 +1,15 @@
--- Document 01, "Questions before a command acts": 5 to 13, as an ordered list for each command.
+-- Document 01, "Questions before a command acts": 5 to 13, as an ordered list for each command; and 15 of document 02, U5.
 -- Assumes nothing.
 use Prim.Native.Nat.{ℕ, _%_, _/_}
 use mathlib.Core.Bool.{Bool, true, false, not, cond, _&&_, _||_}
 use mathlib.Core.List.{List, [], _∷_}
 use lib.Dec.{eqb, ltb}
+use lib.ListN.{getD}
 use Rattle.machine.specs.Pages.{inRange, untranslated}
 use Rattle.machine.specs.Words.{wordInsertable}
 use Rattle.machine.specs.Registers.{partition, mode, tagAccess, tagAddress, tagContext, known, writable, allowed}
 use Rattle.machine.specs.Insertion.{entryOf, candidate, hasSlot}
+use Rattle.machine.specs.Record.{Records, recordOf, kept}
 use Rattle.machine.specs.State.{State, sideOf}
 use Rattle.machine.specs.declared.VirtualAddress.{VirtualAddress}
 use Rattle.machine.specs.declared.Slot.{Slot}
@@ -32,6 +34,7 @@ refusalNumber refusal.Address = 11
 refusalNumber refusal.Word = 12
 refusalNumber refusal.NoSlot = 13
 refusalNumber refusal.Table = 14
+refusalNumber refusal.NoLookup = 15
 
 -- ---- what the questions speak of
 -- the side of an access: a fetch is kind 0
@@ -66,6 +69,10 @@ nucleusFetch file strand kind selector = eqb kind 0 && (eqb selector 2 && eqb (m
 -- number 8: 1, 2, 4 or 8 bytes; a fetch takes 4
 abbrev pub sizeFits : ℕ → ℕ → Bool
 sizeFits kind size = ltb size 4 && (not (eqb kind 0) || eqb size 2)
+
+-- number 15: a lookup is kept
+abbrev pub hasLookups : Records → ℕ → Bool
+hasLookups x r = not (eqb (kept (getD (x .seen) r 0)) 0)
 
 -- ---- the questions
 pub record Question : Type 0 where
@@ -116,6 +123,11 @@ asked u (command.Access strand kind selector size address) =
     ∷ []
 asked u (command.Read strand number) = question refusal.Strand (ltb strand 4) ∷ question refusal.Register (known number) ∷ []
 asked u (command.Pointers strand side) = question refusal.Strand (ltb strand 4) ∷ question refusal.Side (ltb side 2) ∷ []
+asked u (command.Rate strand side) =
+    question refusal.Strand (ltb strand 4)
+    ∷ question refusal.Side (ltb side 2)
+    ∷ question refusal.NoLookup (hasLookups (u .records) (recordOf strand side))
+    ∷ []
 
 -- the first "no" refuses
 unfoldable pub ask : List Question → Verdict

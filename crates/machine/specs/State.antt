@@ -1,4 +1,4 @@
--- The state: a register file and the slots of two sides; as the words that a caller lends; reset; and soundness (number 1).
+-- The state: a register file, the slots of two sides and the miss records; as the words that a caller lends; reset; and soundness (number 1).
 -- Over any number of slots on either side.
 -- Assumes nothing.
 use Prim.Native.Nat.{ℕ, _+_, _*_}
@@ -6,6 +6,7 @@ use mathlib.Core.Bool.{Bool, cond, _&&_}
 use mathlib.Core.List.{List, _++_}
 use lib.Dec.{eqb}
 use lib.ListN.{length, take, drop, replicate}
+use Rattle.machine.specs.Record.{Records, recordCount, olderStart, noRecords, recordsSound}
 use Rattle.machine.specs.Registers.{registerWords, registersSound, resetRegisters}
 use Rattle.machine.specs.Slots.{slotsOf, wordsOf, noSlot}
 use Rattle.machine.specs.Sound.{sideSound}
@@ -28,25 +29,42 @@ pub record State : Type 0 where
   pub registers : List ℕ
   pub itlb : List Slot
   pub dtlb : List Slot
+  pub records : Records
 
 abbrev pub sideOf : State → ℕ → List Slot
 sideOf u side = cond (eqb side 0) (u .itlb) (u .dtlb)
 
 abbrev pub withSide : State → ℕ → List Slot → State
-withSide u side s = record { registers = u .registers; itlb = cond (eqb side 0) s (u .itlb); dtlb = cond (eqb side 0) (u .dtlb) s }
+withSide u side s = record {
+  registers = u .registers;
+  itlb = cond (eqb side 0) s (u .itlb);
+  dtlb = cond (eqb side 0) (u .dtlb) s;
+  records = u .records;
+}
 
 abbrev pub withRegisters : State → List ℕ → State
-withRegisters u file = record { registers = file; itlb = u .itlb; dtlb = u .dtlb }
+withRegisters u file = record { registers = file; itlb = u .itlb; dtlb = u .dtlb; records = u .records }
 
--- ---- the words of a state: registers, side 0, side 1
+abbrev pub withRecords : State → Records → State
+withRecords u x = record { registers = u .registers; itlb = u .itlb; dtlb = u .dtlb; records = x }
+
+-- ---- the words of a state: registers, side 0, side 1, and of the records what each has seen, its newest word, its older words
+abbrev pub recordStart : Counts → ℕ
+recordStart n = registerWords + n .itlb * 4 + n .dtlb * 4
+
 abbrev pub stateWords : Counts → ℕ
-stateWords n = registerWords + n .itlb * 4 + n .dtlb * 4
+stateWords n = recordStart n + recordCount + recordCount + olderStart recordCount
 
 unfoldable pub stateOf : Counts → List ℕ → State
 stateOf n words = record {
   registers = take registerWords words;
   itlb = slotsOf (take (n .itlb * 4) (drop registerWords words));
-  dtlb = slotsOf (drop (registerWords + n .itlb * 4) words);
+  dtlb = slotsOf (take (n .dtlb * 4) (drop (registerWords + n .itlb * 4) words));
+  records = record {
+    seen = take recordCount (drop (recordStart n) words);
+    newest = take recordCount (drop (recordStart n + recordCount) words);
+    older = drop (recordStart n + recordCount + recordCount) words;
+  };
 }
 
 -- the state that lent words hold, and how many words that is
@@ -57,11 +75,11 @@ abbrev pub stateLength : ℕ
 stateLength = stateWords counts
 
 unfoldable pub encode : State → List ℕ
-encode u = u .registers ++ (wordsOf (u .itlb) ++ wordsOf (u .dtlb))
+encode u = u .registers ++ (wordsOf (u .itlb) ++ (wordsOf (u .dtlb) ++ (u .records .seen ++ (u .records .newest ++ u .records .older))))
 
--- reset: mode 2, every other register 0, every slot empty
+-- reset: mode 2, every other register 0, every slot and every record empty
 unfoldable pub reset : Counts → State
-reset n = record { registers = resetRegisters; itlb = replicate (n .itlb) noSlot; dtlb = replicate (n .dtlb) noSlot }
+reset n = record { registers = resetRegisters; itlb = replicate (n .itlb) noSlot; dtlb = replicate (n .dtlb) noSlot; records = noRecords }
 
 -- the call that resets lent words: a state of another length stays as it is and gets 1
 unfoldable pub resetOf : Counts → List ℕ → List ℕ
@@ -70,12 +88,12 @@ resetOf n words = cond (eqb (length words) (stateWords n)) (encode (reset n)) wo
 unfoldable pub resetNumber : Counts → List ℕ → ℕ
 resetNumber n words = cond (eqb (length words) (stateWords n)) 0 1
 
--- "Sound means": registers, and on each side every slot by itself and none that overlap
+-- "Sound means": registers, on each side every slot by itself and none that overlap, and the records (document 02, U5)
 unfoldable pub sideFits : ℕ → List Slot → Bool
 sideFits n s = eqb (length s) n && sideSound s
 
 unfoldable pub sound : Counts → State → Bool
-sound n u = registersSound (u .registers) && (sideFits (n .itlb) (u .itlb) && sideFits (n .dtlb) (u .dtlb))
+sound n u = registersSound (u .registers) && (sideFits (n .itlb) (u .itlb) && (sideFits (n .dtlb) (u .dtlb) && recordsSound (u .records)))
 
 -- number 1, of any words: a state of another length is not sound
 unfoldable pub wordsSound : Counts → List ℕ → Bool

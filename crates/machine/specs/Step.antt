@@ -5,6 +5,7 @@ use Rattle.laws.specs.Tests.{count}
 use Rattle.machine.specs.Slots.{partitionOf, isReal, contextOf}
 use Rattle.machine.specs.Registers.{register, withRegister, partition, selected}
 use Rattle.machine.specs.Tsb.{pointer}
+use Rattle.machine.specs.Record.{recordOf, missRate}
 use Rattle.machine.specs.Insertion.{removed, removes, candidate, inserted, placed}
 use Rattle.machine.specs.State.{State, sideOf, withSide, withRegisters}
 use Rattle.machine.specs.Questions.{flagReal, keyOf, insertion, askedInsertion, ask, verdict}
@@ -53,6 +54,7 @@ act u (command.Access strand kind selector size address) =
     accessTo u (accessOf (u .registers) strand kind selector size address)
 act u (command.Read strand number) = stepped u (answer.Read (register (u .registers) strand number) 0)
 act u (command.Pointers strand side) = stepped u (answer.Read (pointer (u .registers) strand side 0) (pointer (u .registers) strand side 1))
+act u (command.Rate strand side) = stepped u (answer.Read (missRate (u .records) (recordOf strand side)) 0)
 
 -- a command that a question refused leaves the state
 abbrev pub stepBy : Verdict → State → Command → Stepped

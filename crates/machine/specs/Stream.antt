@@ -40,7 +40,7 @@ eight s i = four s i * 4294967296 + four s (i + 4)
 unfoldable pub widthOf : ℕ → ℕ
 widthOf b =
     cond (eqb b 1) 11 (cond (eqb b 2) 12 (cond (eqb b 3) 13 (cond (eqb b 4) 4 (cond (eqb b 5) 3
-    (cond (eqb b 6) 2 (cond (eqb b 7) 13 (cond (eqb b 8) 3 (cond (eqb b 9) 3 0))))))))
+    (cond (eqb b 6) 2 (cond (eqb b 7) 13 (cond (eqb b 8) 3 (cond (eqb b 9) 3 (cond (eqb b 10) 3 0)))))))))
 
 -- the command that a known byte begins, with its operands behind it
 unfoldable pub commandAt : Bytes → ℕ → Command
@@ -54,7 +54,8 @@ commandAt s at =
     (cond (eqb (byte s at) 6) (command.Invalidate (operand 1))
     (cond (eqb (byte s at) 7) (command.Access (operand 1) (operand 2) (operand 3) (operand 4) (record { 0 = eight s (at + 5) }))
     (cond (eqb (byte s at) 8) (command.Read (operand 1) (operand 2))
-    (command.Pointers (operand 1) (operand 2)))))))))
+    (cond (eqb (byte s at) 9) (command.Pointers (operand 1) (operand 2))
+    (command.Rate (operand 1) (operand 2))))))))))
 
 -- what stands at a position: number 2 where the byte is no command's, 3 where its width runs past the end
 unfoldable pub decodeAt : Bytes → ℕ → Decoded
@@ -94,7 +95,7 @@ fieldsOf (answer.Done n) = fields 0 0 0 0 n 0
 fieldsOf (answer.Physical t) = fields 1 (t .attributes) 0 (t .code) (t .address .0) 0
 -- trap: the address used, then tag access as the trap leaves it
 fieldsOf (answer.Trap t) = fields 2 (trapNumber (t .trap)) (trapFault (t .trap)) 0 (t .address .0) (t .tag)
--- read: a register, or both pointers
+-- read: a register, both pointers, or the miss rate (document 02, U5)
 fieldsOf (answer.Read v w) = fields 3 0 0 0 v w
 -- displaced: `place` has page address and context
 fieldsOf (answer.Displaced d) = fields 4 0 (d .partition) (tick (d .real)) (d .place) (d .word)

@@ -20,3 +20,4 @@ view (command.Invalidate side) = other
 view (command.Access strand kind selector size address) = access strand kind selector size address
 view (command.Read strand number) = other
 view (command.Pointers strand side) = other
+view (command.Rate strand side) = other

@@ -10,6 +10,7 @@ ghost use Rattle.machine.specs.Demand3.{Demand3, Described};
 ghost use Rattle.machine.specs.Places.{slots};
 ghost use Rattle.machine.specs.Reference.{Told};
 ghost use Rattle.machine.specs.Frame.{Framed, SoundKept};
+ghost use Rattle.machine.specs.Lookups.{Lookups};
 ghost use Rattle.machine.specs.Examples.{Starred, PrintedRun};
 ghost use Rattle.machine.specs.Format.{Readable, Decodes};
 ghost use Rattle.machine.specs.Searches.{Searches};
@@ -44,7 +45,7 @@ pub const USER: u64 = 0;
 
 pub const HYPERPRIVILEGED: u64 = 2;
 
-// The words of a state: cells of a strand and of all four, the words of a slot, the slots and words of a side, all.
+// The words of a state: cells of a strand and of all four, the words of a slot, the slots and words of a side, the miss records, all.
 pub const STRAND_CELLS: usize = 32;
 
 pub const REGISTER_WORDS: usize = 4 * STRAND_CELLS;
@@ -55,7 +56,18 @@ pub const SIDE_SLOTS: usize = 64;
 
 pub const SIDE_WORDS: usize = SIDE_SLOTS * SLOT_WORDS;
 
-pub const STATE_WORDS: usize = REGISTER_WORDS + 2 * SIDE_WORDS;
+// One for either side of each strand: how many lookups it has seen, its newest word, and its older words.
+pub const RECORDS: usize = 8;
+
+pub const OLDER_WORDS: usize = 15;
+
+pub const SEEN: usize = REGISTER_WORDS + 2 * SIDE_WORDS;
+
+pub const NEWEST: usize = SEEN + RECORDS;
+
+pub const OLDER: usize = NEWEST + RECORDS;
+
+pub const STATE_WORDS: usize = OLDER + RECORDS * OLDER_WORDS;
 
 // The bytes of an answer, and of an entry of a TSB.
 pub const ANSWER_BYTES: usize = 24;
@@ -210,9 +222,13 @@ pub enum Command {
         strand: u8,
         side: u8,
     },
+    Rate {
+        strand: u8,
+        side: u8,
+    },
 }
 
-// Why a command that was taken did not act: numbers 5 to 13, in their order; and 14, of a miss alone.
+// Why a command that was taken did not act: numbers 5 to 13, in their order; 14, of a miss alone; and 15.
 pub enum Refusal {
     Strand,
     Side,
@@ -224,6 +240,7 @@ pub enum Refusal {
     Word,
     NoSlot,
     Table,
+    NoLookup,
 }
 
 // What the questions before a command say.
@@ -265,7 +282,7 @@ pub enum Tag {
 pub enum Prepared {
     Stopped(Trap, Tag),
     Bypass(Translation),
-    Lookup(Key),
+    Lookup,
 }
 
 // What a found entry's word says to an access: a trap, or that it may go on.
@@ -346,6 +363,7 @@ pub fn answer_width() -> usize
     ensures sound { λ r. ⌜ SoundKept ⌝ }
     ensures framed { λ r. ⌜ Framed ⌝ }
     ensures searches { λ r. ⌜ ((n : Counts) → Searches n) ⌝ }
+    ensures lookups { λ r. ⌜ Lookups ⌝ }
     ensures extent { λ r. ⌜ ((n : Counts) → Extent n) ⌝ }
     ensures decodes { λ r. ⌜ Decodes ⌝ }
     ensures starred { λ r. ⌜ Starred ⌝ }

@@ -59,6 +59,9 @@ passed-fit u (command.Read strand number) v =
 passed-fit u (command.Pointers strand side) v =
     let q = passed-asked u (command.Pointers strand side) v in
     (search conj, search conj)
+passed-fit u (command.Rate strand side) v =
+    let q = passed-asked u (command.Rate strand side) v in
+    (search conj, search conj)
 
 -- a page starts at a multiple of 2^13, so its context fits beside it
 pub place-fits : (new : Slot) (s : List Slot) → sideSound s ≡ true → PlaceFits (placed candidate new s)

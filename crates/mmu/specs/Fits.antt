@@ -30,6 +30,7 @@ OperandsFit (command.Invalidate side) = side < 2
 OperandsFit (command.Access strand kind selector size address) = (strand < 4) × (size < 4)
 OperandsFit (command.Read strand number) = (strand < 4) × (number < 32)
 OperandsFit (command.Pointers strand side) = (strand < 4) × (side < 2)
+OperandsFit (command.Rate strand side) = (strand < 4) × (side < 2)
 
 -- the words of a sound state on which the command passed its questions
 pub record Ready (words : List ℕ) (c : Command) : Type 0 where

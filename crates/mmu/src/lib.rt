@@ -166,6 +166,13 @@ fn act_pointers(state: &[u64], strand: u8, side: u8) -> Answer
     )
 }
 
+fn act_rate(state: &[u64], strand: u8, side: u8) -> Answer
+    requires { ⌜ Ready (now state) (command.Rate strand side) ⌝ }
+    ensures { λ r. ⌜ r ≡ act (stateIn (now (state .entry))) (command.Rate strand side) .answer ⌝ }
+{
+    Answer::Read(state::miss_rate(state, strand, side), 0)
+}
+
 fn act_command(state: &mut [u64], hints: &mut [u8; 256], command: Command) -> Answer
     requires { ⌜ Ready (now state) command ⌝ }
     ensures { λ r. ⌜ Did (now (state .exit)) r (act (stateIn (now (state .entry))) command) ⌝ }
@@ -205,6 +212,7 @@ fn act_command(state: &mut [u64], hints: &mut [u8; 256], command: Command) -> An
         } => act_access(state, hints, strand, kind, selector, size, address),
         Command::Read { strand, register } => act_read(state, strand, register),
         Command::Pointers { strand, side } => act_pointers(state, strand, side),
+        Command::Rate { strand, side } => act_rate(state, strand, side),
     }
 }
 

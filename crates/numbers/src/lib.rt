@@ -52,5 +52,6 @@ pub fn refusal_number(refusal: Refusal) -> u64
         Refusal::Word => 12,
         Refusal::NoSlot => 13,
         Refusal::Table => 14,
+        Refusal::NoLookup => 15,
     }
 }

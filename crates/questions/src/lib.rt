@@ -165,6 +165,19 @@ fn ask_read(state: &[u64], strand: u8, number: u8) -> Verdict
     Verdict::Passed
 }
 
+fn ask_rate(state: &[u64], strand: u8, side: u8) -> Verdict
+    requires { ⌜ Lent (now state) ⌝ }
+    ensures { λ r. ⌜ r ≡ verdict (stateIn (now (state .entry))) (command.Rate strand side) ⌝ }
+{
+    if let Verdict::Refused(refusal) = ask_demap_all(state, strand, side) {
+        return Verdict::Refused(refusal);
+    }
+    if state::lookups_kept(state, strand, side) == 0 {
+        return Verdict::Refused(Refusal::NoLookup);
+    }
+    Verdict::Passed
+}
+
 fn ask_invalidate(state: &[u64], side: u8) -> Verdict
     ensures { λ r. ⌜ r ≡ verdict (stateIn (now (state .entry))) (command.Invalidate side) ⌝ }
 {
@@ -215,5 +228,6 @@ pub fn question(state: &[u64], command: Command) -> Verdict
         Command::Read { strand, register } => ask_read(state, strand, register),
         // Pointers ask what a demap all asks.
         Command::Pointers { strand, side } => ask_demap_all(state, strand, side),
+        Command::Rate { strand, side } => ask_rate(state, strand, side),
     }
 }

@@ -1,4 +1,4 @@
--- The parts of a state that are lent: a side as `state[a..a + 256]`, and all three for soundness. Assumes nothing.
+-- The parts of a state that are lent: a side as `state[a..a + 256]`, and all parts for soundness. Assumes nothing.
 use Prim.Native.Nat.{ℕ, _+_, _-_, _*_, _<_}
 use mathlib.Core.Path.{_≡_, refl, _∙_}
 use mathlib.Core.Bool.{_&&_}
@@ -10,6 +10,7 @@ use Rattle.laws.proofs.Bools.{by-test}
 use Rattle.machine.specs.Slots.{slotsOf, wordsOf}
 use Rattle.machine.specs.Sound.{sideSound}
 use Rattle.machine.specs.Registers.{registersSound}
+use Rattle.machine.specs.Record.{recordsSound}
 use Rattle.machine.specs.State.{counts, slotCount, stateOf, stateIn, sideOf, wordsSound}
 use Rattle.machine.specs.declared.Slot.{Slot}
 use Rattle.state.specs.Calls.{Lent, onSide}
@@ -44,6 +45,8 @@ lent-side words {side} {a} l h start =
     }
 
 pub lent-sound : (words : List ℕ) → Lent words → wordsSound counts words
-    ≡ (registersSound (take 128 words) && (sideSound (slotsOf (take 256 (drop 128 words))) && sideSound (slotsOf (take 256 (drop 384 words)))))
+    ≡ (registersSound (take 128 words)
+    && (sideSound (slotsOf (take 256 (drop 128 words)))
+    && (sideSound (slotsOf (take 256 (drop 384 words))) && recordsSound (stateIn words .records))))
 unfolding stateOf
-lent-sound words l = sound-parts counts words l ∙ rw (lent-side words {side = 1} {a = 384} l (omega arith) refl .slots)
+lent-sound words l = sound-parts counts words l

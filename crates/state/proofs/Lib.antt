@@ -1,3 +1,4 @@
 pub mod Parts
 pub mod Lent
+pub mod Lookups
 pub mod Filled

@@ -1,13 +1,16 @@
-// The state as lent words: 128 register cells, then side 0, then side 1, 64 slots each.
+// The state as lent words: 128 register cells, then side 0, then side 1, 64 slots each, then the miss records.
 ghost use mathlib.Core.Path.{_≡_};
-ghost use Prim.Native.Nat.{_+_, _*_, _<_};
+ghost use mathlib.Core.Bool.{true};
+ghost use Prim.Native.Nat.{_+_, _*_, _%_, _<_};
 ghost use lib.ListN.{length, getD};
 ghost use Rattle.laws.specs.Tests.{count};
 ghost use Rattle.machine.specs.Slots.{noSlot, slotsOf, KeyFits, search, searched, setUsed};
 ghost use Rattle.machine.specs.Insertion.{removed, removes, candidate, inserted, placed, hasSlot};
 ghost use Rattle.machine.specs.Registers.{register, withRegister};
 ghost use Rattle.machine.specs.State.{counts, stateIn, encode, sideOf, withRegisters, wordsSound, resetOf, resetNumber};
-ghost use Rattle.state.specs.Calls.{Lent, SoundIn, onSide};
+ghost use Rattle.machine.specs.Record.{recordOf, olderOf, turned, put, noted, kept, missRate, recordsSound};
+ghost use Rattle.machine.specs.Questions.{hasLookups};
+ghost use Rattle.state.specs.Calls.{Lent, SoundIn, onSide, onRecords, missNoted};
 ghost use Rattle.state.specs.Reset.{resetWord};
 use laws::Found;
 use machine::Key;
@@ -143,7 +146,114 @@ pub fn remove_side(state: &mut [u64], side: u8, which: Removal) -> u64
     tlb_update::remove(&mut state[start..end], which)
 }
 
-// Number 1, of any words: the length, the registers and both sides.
+fn record_of(strand: u8, side: u8) -> usize
+    ensures { λ r. ⌜ r ≡ recordOf strand side ⌝ }
+{
+    (strand as usize) * 2 + (side as usize)
+}
+
+// The older words of a record, to read.
+fn older_of(state: &[u64], number: usize) -> &[u64]
+    requires { ⌜ Lent (now state) × (number < 8) ⌝ }
+    ensures { λ r. ⌜ now r ≡ olderOf (stateIn (now (state .entry)) .records .older) number ⌝ }
+{
+    let start = machine::OLDER + number * machine::OLDER_WORDS;
+    let end = start + machine::OLDER_WORDS;
+    &state[start..end]
+}
+
+// A full newest word becomes the first of the older ones.
+fn turn_record(state: &mut [u64], number: usize)
+    requires { ⌜ Lent (now state) × (number < 8) ⌝ }
+    ensures { λ r. ⌜ now (state .exit) ≡ onRecords (turned number) (now (state .entry)) ⌝ }
+{
+    let newest = state[machine::NEWEST + number];
+    let start = machine::OLDER + number * machine::OLDER_WORDS;
+    let end = start + machine::OLDER_WORDS;
+    state[machine::NEWEST + number] = miss_record::turn(&mut state[start..end], newest);
+    let seen = state[machine::SEEN + number];
+    if 1024 < seen {
+        state[machine::SEEN + number] = seen - 64;
+    }
+}
+
+// A lookup more in a record whose newest word has room, as a hit.
+fn put_lookup(state: &mut [u64], number: usize)
+    requires { ⌜ Lent (now state) × (number < 8) × (getD (stateIn (now state) .records .seen) number 0 < 1089) ⌝ }
+    ensures { λ r. ⌜ now (state .exit) ≡ onRecords (put number 0) (now (state .entry)) ⌝ }
+{
+    state[machine::SEEN + number] += 1;
+    state[machine::NEWEST + number] = miss_record::push(state[machine::NEWEST + number]);
+}
+
+// Notes a lookup, as a hit.
+pub fn note_lookup(state: &mut [u64], strand: u8, side: u8)
+    requires { ⌜ Lent (now state) × (strand < 4) × (side < 2) × SoundIn (now state) ⌝ }
+    ensures { λ r. ⌜ now (state .exit) ≡ onRecords (noted (recordOf strand side) 0) (now (state .entry)) ⌝ }
+{
+    let number = record_of(strand, side);
+    if state[machine::SEEN + number] % 64 == 0 {
+        turn_record(state, number);
+        put_lookup(state, number);
+        return;
+    }
+    put_lookup(state, number);
+}
+
+// The lookup noted last was a miss.
+pub fn note_miss(state: &mut [u64], strand: u8, side: u8)
+    requires { ⌜ Lent (now state) × (strand < 4) × (side < 2)
+        × (getD (stateIn (now state) .records .newest) (recordOf strand side) 0 % 2 ≡ 0) ⌝ }
+    ensures { λ r. ⌜ now (state .exit) ≡ onRecords (missNoted (recordOf strand side)) (now (state .entry)) ⌝ }
+{
+    let number = record_of(strand, side);
+    state[machine::NEWEST + number] += 1;
+}
+
+// How many lookups are kept.
+pub fn lookups_kept(state: &[u64], strand: u8, side: u8) -> u64
+    requires { ⌜ Lent (now state) × (strand < 4) × (side < 2) ⌝ }
+    ensures { λ r. ⌜ r ≡ kept (getD (stateIn (now (state .entry)) .records .seen) (recordOf strand side) 0) ⌝ }
+{
+    let seen = state[machine::SEEN + record_of(strand, side)];
+    if seen < 1024 {
+        return seen;
+    }
+    1024
+}
+
+// The miss rate of the lookups kept.
+pub fn miss_rate(state: &[u64], strand: u8, side: u8) -> u64
+    requires { ⌜ Lent (now state) × (strand < 4) × (side < 2)
+        × (hasLookups (stateIn (now state) .records) (recordOf strand side) ≡ true) ⌝ }
+    ensures { λ r. ⌜ r ≡ missRate (stateIn (now (state .entry)) .records) (recordOf strand side) ⌝ }
+{
+    let number = record_of(strand, side);
+    let newest = u64::count_ones(state[machine::NEWEST + number]) as u64;
+    let older = miss_record::count_ones(older_of(state, number));
+    miss_record::per_thousand(newest + older, lookups_kept(state, strand, side))
+}
+
+// Whether every record is sound.
+fn records_sound(state: &[u64]) -> bool
+    requires { ⌜ Lent (now state) ⌝ }
+    ensures { λ r. ⌜ r ≡ recordsSound (stateIn (now (state .entry)) .records) ⌝ }
+{
+    let mut i = 0;
+    while i < machine::RECORDS {
+        if !miss_record::record_sound(
+            state[machine::SEEN + i],
+            state[machine::NEWEST + i],
+            older_of(state, i),
+        ) {
+            return false;
+        }
+        i += 1;
+    }
+    true
+}
+
+// Number 1, of any words: the length, the registers, both sides and the records.
 pub fn state_sound(state: &[u64]) -> bool
     ensures { λ r. ⌜ r ≡ wordsSound counts (now (state .entry)) ⌝ }
 {
@@ -155,7 +265,8 @@ pub fn state_sound(state: &[u64]) -> bool
     // another mark for side 1: what side 0 left in the table does not count
     registers::file_sound(&state[0..machine::REGISTER_WORDS])
         && (tlb_sound::side_sound(&state[machine::REGISTER_WORDS..DTLB], seen, 1)
-            && tlb_sound::side_sound(&state[DTLB..machine::STATE_WORDS], seen, 2))
+            && (tlb_sound::side_sound(&state[DTLB..machine::SEEN], seen, 2)
+                && records_sound(state)))
 }
 
 fn reset_word(i: usize) -> u64

@@ -6,6 +6,6 @@ use Prim.Native.Nat.{ℕ, _+_, _*_}
 abbrev pub versionNumber : ℕ → ℕ → ℕ → ℕ
 versionNumber major minor patch = major * 65536 + minor * 256 + patch
 
--- 1.2.0: document 01, and U1 to U3 of document 02
+-- 3.0.0: document 01, and U1 to U5 of document 02
 abbrev pub version : ℕ
-version = versionNumber 2 0 0
+version = versionNumber 3 0 0

@@ -21,7 +21,7 @@ use machine::Tte;
 pub extern "C" fn t1mmu_version() -> u32
     ensures { λ r. ⌜ r ≡ version ⌝ }
 {
-    0x02_00_00
+    0x03_00_00
 }
 
 // How many words a state has: those of an empty ledger with its places.

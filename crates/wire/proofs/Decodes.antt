@@ -35,17 +35,17 @@ pub short-width : (b : ℕ) → (b ≡ 1 → ⊥) → (b ≡ 2 → ⊥) → (b �
 unfolding widthOf
 short-width b n1 n2 n3 n7 =
     simp (ne-eqb b 1 n1, ne-eqb b 2 n2, ne-eqb b 3 n3, ne-eqb b 7 n7)
-    (arm (eqb b 4) 4 tt (arm (eqb b 5) 3 tt (arm (eqb b 6) 2 tt (arm (eqb b 8) 3 tt (arm (eqb b 9) 3 tt (omega arith))))))
+    (arm (eqb b 4) 4 tt (arm (eqb b 5) 3 tt (arm (eqb b 6) 2 tt (arm (eqb b 8) 3 tt (arm (eqb b 9) 3 tt (arm (eqb b 10) 3 tt (omega arith)))))))
   where
     arm : (t : Bool) (width : ℕ) {other : ℕ} → T (leb width 4) → other ≤ 4 → cond t width other ≤ 4
     arm true width h o = lit≤ h
     arm false width h o = o
 
 -- .. and of the short ones there are no others
-pub no-other : (b : ℕ) → (b ≡ 4 → ⊥) → (b ≡ 5 → ⊥) → (b ≡ 8 → ⊥) → (b ≡ 9 → ⊥) → (b ≡ 6 → ⊥) → 2 ≤ widthOf b → widthOf b ≤ 4 → ⊥
+pub no-other : (b : ℕ) → (b ≡ 4 → ⊥) → (b ≡ 5 → ⊥) → (b ≡ 8 → ⊥) → (b ≡ 9 → ⊥) → (b ≡ 10 → ⊥) → (b ≡ 6 → ⊥) → 2 ≤ widthOf b → widthOf b ≤ 4 → ⊥
 unfolding widthOf
-no-other b n4 n5 n8 n9 n6 =
-    simp (ne-eqb b 4 n4, ne-eqb b 5 n5, ne-eqb b 6 n6, ne-eqb b 8 n8, ne-eqb b 9 n9)
+no-other b n4 n5 n8 n9 n10 n6 =
+    simp (ne-eqb b 4 n4, ne-eqb b 5 n5, ne-eqb b 6 n6, ne-eqb b 8 n8, ne-eqb b 9 n9, ne-eqb b 10 n10)
     (arm (eqb b 1) 11 tt (arm (eqb b 2) 12 tt (arm (eqb b 3) 13 tt (arm (eqb b 7) 13 tt (λ l h. omega arith)))))
   where
     arm : (t : Bool) (width : ℕ) {other : ℕ} → T (leb 5 width) → (2 ≤ other → other ≤ 4 → ⊥)

@@ -53,11 +53,12 @@ fn command_width(byte: u8) -> usize
         7 => 13,
         8 => 3,
         9 => 3,
+        10 => 3,
         _ => 0,
     }
 }
 
-// A command of one-byte operands alone. No command takes the arm `_`: with all nine told apart the compiler asks the byte's range once.
+// A command of one-byte operands alone. No command takes the arm `_`: with all ten told apart the compiler asks the byte's range once.
 fn short_command(rest: &[u8]) -> Command
     requires { ⌜ Whole (now rest) × (widthOf (byteOf (now rest) 0) ≤ 4) ⌝ }
     ensures { λ r. ⌜ r ≡ commandAt (now (rest .entry)) 0 ⌝ }
@@ -78,6 +79,10 @@ fn short_command(rest: &[u8]) -> Command
             register: rest[2],
         },
         9 => Command::Pointers {
+            strand: first,
+            side: rest[2],
+        },
+        10 => Command::Rate {
             strand: first,
             side: rest[2],
         },

@@ -49,6 +49,19 @@ pub enum Broken {
     HitCode15,
     /// the largest pages have the size code of the next ones
     HitCode5As3,
+    /// a lookup whose entry faults counts as a miss
+    FaultNotedAsMiss,
+    /// an access out of range counts as a miss
+    RangeNoted,
+    /// a rate of one lookup fewer than are kept
+    RateOfLast1023,
+    RateRoundedUp,
+    /// number 15 is asked before number 6
+    RateAskedBeforeSide,
+    /// both sides of a strand share a record
+    OneRecordForSides,
+    /// invalidation empties the side's records
+    InvalidateForgetsLookups,
     /// the miss handler takes the table of the other contexts
     ServeSwapped,
     /// N of the ps1 table
@@ -93,6 +106,8 @@ pub enum Broken {
     /// in mode 2 nothing is in the table
     ServeByMode,
     ServeLittleEndian,
+    /// a serve counts as a lookup
+    ServeNoted,
 }
 
 const NAMES: &[(&str, Broken)] = &[
@@ -118,6 +133,13 @@ const NAMES: &[(&str, Broken)] = &[
     ("hit-code-0", Broken::HitCode0),
     ("hit-code-15", Broken::HitCode15),
     ("hit-code-5-as-3", Broken::HitCode5As3),
+    ("fault-noted-as-miss", Broken::FaultNotedAsMiss),
+    ("range-noted", Broken::RangeNoted),
+    ("rate-of-last-1023", Broken::RateOfLast1023),
+    ("rate-rounded-up", Broken::RateRoundedUp),
+    ("rate-asked-before-side", Broken::RateAskedBeforeSide),
+    ("one-record-for-sides", Broken::OneRecordForSides),
+    ("invalidate-forgets-lookups", Broken::InvalidateForgetsLookups),
     ("serve-swapped", Broken::ServeSwapped),
     ("serve-ps1-base", Broken::ServePs1Base),
     ("serve-ps1-size", Broken::ServePs1Size),
@@ -143,6 +165,7 @@ const NAMES: &[(&str, Broken)] = &[
     ("serve-writes", Broken::ServeWrites),
     ("serve-by-mode", Broken::ServeByMode),
     ("serve-little-endian", Broken::ServeLittleEndian),
+    ("serve-noted", Broken::ServeNoted),
 ];
 
 static CHOSEN: AtomicU8 = AtomicU8::new(Broken::Nothing as u8);

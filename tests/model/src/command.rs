@@ -1,7 +1,7 @@
 //! The command stream: codes, widths, operands ("The stream").
-use t1mmu::numbers::{ACCESS, DEMAP_ALL, DEMAP_CONTEXT, DEMAP_PAGE, INSERT, INVALIDATE, POINTERS, READ, WRITE};
+use t1mmu::numbers::{ACCESS, DEMAP_ALL, DEMAP_CONTEXT, DEMAP_PAGE, INSERT, INVALIDATE, POINTERS, RATE, READ, WRITE};
 use t1mmu::numbers::{ACCESS_BYTES, DEMAP_ALL_BYTES, DEMAP_CONTEXT_BYTES, DEMAP_PAGE_BYTES, INSERT_BYTES};
-use t1mmu::numbers::{INVALIDATE_BYTES, POINTERS_BYTES, READ_BYTES, WRITE_BYTES};
+use t1mmu::numbers::{INVALIDATE_BYTES, POINTERS_BYTES, RATE_BYTES, READ_BYTES, WRITE_BYTES};
 
 #[derive(Clone, Copy, Debug, PartialEq)]
 pub enum Command {
@@ -14,6 +14,7 @@ pub enum Command {
     Access { strand: u8, kind: u8, selector: u8, size: u8, address: u64 },
     Read { strand: u8, register: u8 },
     Pointers { strand: u8, side: u8 },
+    Rate { strand: u8, side: u8 },
 }
 
 /// Code and operands together, in bytes; none for an unknown code.
@@ -28,6 +29,7 @@ pub fn width(code: u8) -> Option<usize> {
         ACCESS => Some(ACCESS_BYTES),
         READ => Some(READ_BYTES),
         POINTERS => Some(POINTERS_BYTES),
+        RATE => Some(RATE_BYTES),
         _ => None,
     }
 }
@@ -48,6 +50,7 @@ pub fn decode(b: &[u8]) -> Command {
         ACCESS => Command::Access { strand: b[1], kind: b[2], selector: b[3], size: b[4], address: big_endian(&b[5..]) },
         READ => Command::Read { strand: b[1], register: b[2] },
         POINTERS => Command::Pointers { strand: b[1], side: b[2] },
+        RATE => Command::Rate { strand: b[1], side: b[2] },
         code => panic!("{code:#04x} is no command"),
     }
 }
@@ -64,6 +67,7 @@ pub fn encode(command: Command) -> Vec<u8> {
         Command::Access { strand, kind, selector, size, address } => with(&[ACCESS, strand, kind, selector, size], address),
         Command::Read { strand, register } => vec![READ, strand, register],
         Command::Pointers { strand, side } => vec![POINTERS, strand, side],
+        Command::Rate { strand, side } => vec![RATE, strand, side],
     }
 }
 
@@ -84,6 +88,7 @@ pub fn in_words(command: Command) -> String {
         }
         Command::Read { strand, register } => format!("read strand {strand} register {register}"),
         Command::Pointers { strand, side } => format!("pointers strand {strand} side {side}"),
+        Command::Rate { strand, side } => format!("rate strand {strand} side {side}"),
     }
 }
 

@@ -6,6 +6,7 @@ use crate::ledger::Ledger;
 use crate::library;
 use crate::model::{self, Model, Part, Report};
 use crate::random::Random;
+use crate::record::{outcomes_at, seen_at};
 use crate::states::{self, Start};
 use crate::tables::Miss;
 use t1mmu::numbers::{cell_at, slot_at, ANSWER_BYTES, CELLS, SIDES, SLOTS, SLOT_WORDS, STATE_WORDS, STRANDS};
@@ -47,7 +48,7 @@ pub struct Counts {
     pub predicted: u64,
 }
 
-const OTHER_STARTS: [Start; 12] = [
+const OTHER_STARTS: [Start; 13] = [
     Start::Sound,
     Start::Sound,
     Start::Sound,
@@ -59,6 +60,7 @@ const OTHER_STARTS: [Start; 12] = [
     Start::DirtyEmptySlot,
     Start::RandomCell,
     Start::BadPage,
+    Start::BadRecord,
     Start::WrongLength,
 ];
 
@@ -124,6 +126,14 @@ fn place(at: isize) -> String {
     for (side, slot) in (0..SIDES).flat_map(|side| (0..SLOTS).map(move |slot| (side, slot))) {
         if let Some(word) = (0..SLOT_WORDS).find(|w| is(slot_at(side, slot) + w)) {
             return format!("side {side} slot {slot} {}", NAMES[word]);
+        }
+    }
+    for (strand, side) in (0..STRANDS).flat_map(|strand| (0..SIDES).map(move |side| (strand, side))) {
+        if is(seen_at(strand, side)) {
+            return format!("strand {strand} side {side} lookups seen");
+        }
+        if let Some(word) = outcomes_at(strand, side).into_iter().position(is) {
+            return format!("strand {strand} side {side} outcomes, word {word}");
         }
     }
     "outside the state".to_string()

@@ -1,13 +1,17 @@
-//! How often each answer, refusal, trap, stop, start state, way of an insertion and outcome of a serve occurred; a comparison that never met
-//! one of them shows little.
+//! How often each answer, refusal, trap, stop, start state, way of an insertion, outcome of a serve and sort of rate occurred; a comparison
+//! that never met one of them shows little.
 use crate::model::{Choice, Entry, Event, Misfit, CHOICES, MISFITS};
 use crate::states::{Start, STARTS};
 
+/// Command codes, and the numbers of commands' refusals, are below these.
+const CODES: usize = 11;
+const NUMBERS: usize = 16;
+
 pub struct Coverage {
-    commands: [u64; 10],
+    commands: [u64; CODES],
     answers: [u64; 6],
     /// by command code and number
-    refusals: [[u64; 14]; 10],
+    refusals: [[u64; NUMBERS]; CODES],
     traps: Vec<u64>,
     attributes: [u64; 8],
     /// physical answers: of lookups by fetch, realness and size code; of bypasses by kind and I/O space
@@ -18,12 +22,14 @@ pub struct Coverage {
     /// and by whether a bit above 39 is set
     io_above: [[u64; 2]; 2],
     /// by command code: removals of none, one, several
-    removed: [[u64; 3]; 10],
+    removed: [[u64; 3]; CODES],
     stops: [u64; 5],
     choices: [u64; 6],
     found: [[u64; 6]; 2],
+    /// rates 0, between and 1000: of fewer lookups than are kept, and of as many
+    rated: [[u64; 3]; 2],
     /// by start: sound, not sound
-    starts: [[u64; 2]; 10],
+    starts: [[u64; 2]; STARTS.len()],
     serves: Serves,
 }
 
@@ -50,8 +56,9 @@ struct Serves {
 const HANDED: [usize; 4] = [1, 5, 6, 14];
 const SERVED: [usize; 3] = [11, 12, 13];
 
-/// Which numbers a command can meet: 5 to 13 of "Questions before a command acts".
-const ASKED: [&[u8]; 10] = [&[], &[5, 9, 10], &[5, 6, 8, 11, 12, 13], &[5, 6, 7, 8, 11], &[5, 6, 7], &[5, 6], &[6], &[5, 6, 7, 8], &[5, 9], &[5, 6]];
+/// Which numbers a command can meet: 5 to 13 of "Questions before a command acts", and 15.
+const ASKED: [&[u8]; CODES] =
+    [&[], &[5, 9, 10], &[5, 6, 8, 11, 12, 13], &[5, 6, 7, 8, 11], &[5, 6, 7], &[5, 6], &[6], &[5, 6, 7, 8], &[5, 9], &[5, 6], &[5, 6, 15]];
 
 /// Every trap number with every fault type that it can have.
 const TRAPS: [(usize, &[usize]); 9] = [
@@ -82,20 +89,21 @@ fn told(choice: &Choice) -> &'static str {
 impl Default for Coverage {
     fn default() -> Self {
         Coverage {
-            commands: [0; 10],
+            commands: [0; CODES],
             answers: [0; 6],
-            refusals: [[0; 14]; 10],
+            refusals: [[0; NUMBERS]; CODES],
             traps: vec![0; 65536],
             attributes: [0; 8],
             translated: [[[0; 6]; 2]; 2],
             bypassed: [[0; 2]; 5],
             io_faults: [[[0; 2]; 2]; 2],
             io_above: [[0; 2]; 2],
-            removed: [[0; 3]; 10],
+            removed: [[0; 3]; CODES],
             stops: [0; 5],
             choices: [0; 6],
             found: [[0; 6]; 2],
-            starts: [[0; 2]; 10],
+            rated: [[0; 3]; 2],
+            starts: [[0; 2]; STARTS.len()],
             serves: Serves::default(),
         }
     }
@@ -130,7 +138,7 @@ impl Serves {
                 self.free_bits += *free_bits as u64;
             }
             Event::Served(entry) => self.entries.push(*entry),
-            Event::Found(_) | Event::Translated { .. } | Event::Bypassed { .. } | Event::IoFault { .. } => unreachable!("of a run"),
+            Event::Found(_) | Event::Translated { .. } | Event::Bypassed { .. } | Event::IoFault { .. } | Event::Rated { .. } => unreachable!("of a run"),
         }
     }
 
@@ -187,6 +195,7 @@ impl Coverage {
                     self.io_faults[kind][*translating as usize][*context as usize] += 1;
                     self.io_above[kind][*above as usize] += 1;
                 }
+                Event::Rated { full, rate } => self.rated[*full as usize][(*rate > 0) as usize + (*rate == 1000) as usize] += 1,
                 _ => unreachable!("of a serve"),
             }
         }
@@ -218,7 +227,7 @@ impl Coverage {
     /// Every thing that has to occur, by name.
     fn items(&self) -> Vec<(String, u64)> {
         let mut all = Vec::new();
-        for code in 1..10 {
+        for code in 1..CODES {
             all.push((format!("command {code:#04x}"), self.commands[code]));
             for &number in ASKED[code] {
                 all.push((format!("command {code:#04x} refused {number}"), self.refusals[code][number as usize]));
@@ -248,6 +257,11 @@ impl Coverage {
         }
         for (real, name) in ["virtual", "real"].iter().enumerate() {
             [0, 1, 3, 5].iter().for_each(|&code: &usize| all.push((format!("found {name}, size code {code}"), self.found[real][code])));
+        }
+        for (full, many) in ["fewer than 1,024", "1,024"].iter().enumerate() {
+            for (n, rate) in ["0", "between", "1000"].iter().enumerate() {
+                all.push((format!("rate {rate} of {many} lookups"), self.rated[full][n]));
+            }
         }
         self.serves.items(&mut all);
         self.start_items(&mut all);

@@ -275,10 +275,11 @@ impl Scene {
             all.push(self.removal(r));
         } else {
             let register = self.register(r);
-            all.push(match r.below(4) {
+            all.push(match r.below(6) {
                 0 | 1 => self.write(r, register),
                 2 => Command::Read { strand: self.strand(r), register: if r.percent(95) { r.below(REGISTERS as u64) as u8 } else { r.next() as u8 } },
-                _ => Command::Pointers { strand: self.strand(r), side: self.operand(r, SIDES as u8) },
+                3 => Command::Pointers { strand: self.strand(r), side: self.operand(r, SIDES as u8) },
+                _ => Command::Rate { strand: self.strand(r), side: self.operand(r, SIDES as u8) },
             });
         }
     }
@@ -299,10 +300,10 @@ impl Scene {
         let mut room = ANSWER_BYTES * commands.len() + r.below(60) as usize;
         match r.below(20) {
             0 | 1 => input.truncate(r.below(input.len() as u64 + 1) as usize),
-            2 => input.extend([r.pick(&[0, 0x0A, 0x0B, 0x10, 0x80, 0xFF]), 0, 0]),
+            2 => input.extend([r.pick(&[0, 0x0B, 0x0C, 0x10, 0x80, 0xFF]), 0, 0]),
             3 | 4 => room = r.below(room as u64 + 1) as usize,
             5 => room = r.below(100) as usize,
-            6 => (0..r.below(40)).for_each(|_| input.push(r.mostly(11))),
+            6 => (0..r.below(40)).for_each(|_| input.push(r.mostly(12))),
             7 => input.clear(),
             _ => {}
         }

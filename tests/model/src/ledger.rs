@@ -1,7 +1,8 @@
-//! The plain machine of demand 3: registers, and two lists of entries by age. It has no slots and no used bits, and it is
-//! written again from "The ledger" and from document 02's U1, sharing nothing with the model but the decoded command and the counts of the machine.
+//! The plain machine of demand 3: registers, two lists of entries by age, and every lookup that was made. It has no slots and no used bits,
+//! and it is written again from "The ledger" and from document 02's U1 and U5, sharing nothing with the model but the decoded command and the
+//! counts of the machine.
 use crate::command::Command;
-use t1mmu::numbers::{ANSWER_BYTES, REGISTERS, SIDES, SLOTS, STRANDS, TSB_ENTRY_BYTES};
+use t1mmu::numbers::{ANSWER_BYTES, KEPT_LOOKUPS, REGISTERS, SIDES, SLOTS, STRANDS, TSB_ENTRY_BYTES};
 
 /// An answer as it is written.
 type Bytes = [u8; ANSWER_BYTES];
@@ -19,6 +20,8 @@ struct Item {
 pub struct Ledger {
     registers: [[u64; REGISTERS]; STRANDS],
     lists: [Vec<Item>; SIDES],
+    /// Of each strand and side all lookups since reset, oldest first: whether an entry was found.
+    lookups: [[Vec<bool>; SIDES]; STRANDS],
 }
 
 /// The entry that an answer of kind 4 names.
@@ -93,7 +96,7 @@ impl Ledger {
     pub fn reset() -> Ledger {
         let mut registers = [[0; REGISTERS]; STRANDS];
         registers.iter_mut().for_each(|r| r[3] = 2);
-        Ledger { registers, lists: [Vec::new(), Vec::new()] }
+        Ledger { registers, lists: Default::default(), lookups: Default::default() }
     }
 
     /// The answer of the ledger, fed what the unit's answer names as displaced; none where the name is not that of a live unlocked entry.
@@ -126,7 +129,7 @@ impl Ledger {
             Command::Write { strand, .. } | Command::Read { strand, .. } => (strand, 0),
             Command::Insert { strand, side, .. } | Command::DemapPage { strand, side, .. } => (strand, side),
             Command::DemapContext { strand, side, .. } | Command::DemapAll { strand, side } => (strand, side),
-            Command::Pointers { strand, side } => (strand, side),
+            Command::Pointers { strand, side } | Command::Rate { strand, side } => (strand, side),
             Command::Invalidate { side } => (0, side),
             Command::Access { strand, kind, .. } => (strand, if kind > 4 { 2 } else { kind.min(1) }),
         };
@@ -162,6 +165,7 @@ impl Ledger {
                 let no_way = list.len() == SLOTS && list.iter().all(|e| e.lock) && !list.iter().any(|e| overlap(e, &new));
                 no_way.then_some(13)
             }
+            Command::Rate { .. } if self.lookups[strand as usize][side as usize].is_empty() => Some(15),
             _ => None,
         }
     }
@@ -196,6 +200,7 @@ impl Ledger {
             }
             Command::Access { strand, kind, selector, size, address } => self.access(strand, kind, selector, size, address),
             Command::Pointers { strand, side } => self.pointers(strand as usize, side as usize),
+            Command::Rate { strand, side } => bytes([3, 0, 0, 0], self.per_thousand(strand as usize, side as usize), 0),
         })
     }
 
@@ -252,6 +257,7 @@ impl Ledger {
         let found = self.lists[side].iter().find(|e| {
             e.partition == r[0] && e.real != translates && (e.real || e.context == context) && same_page(e.word, e.page, address)
         });
+        self.lookups[strand as usize][side].push(found.is_some());
         match found.copied() {
             Some(e) => self.judged(strand, kind, e, address, tag),
             None => {
@@ -288,6 +294,14 @@ impl Ledger {
         r[22 + side] = address;
         r[24 + side] = (number as u64) << 8 | fault as u64;
         bytes([2, number, fault, 0], address, r[20 + side])
+    }
+
+    /// How many of a thousand found nothing, by the last lookups; the remainder is dropped.
+    fn per_thousand(&self, strand: usize, side: usize) -> u64 {
+        let all = &self.lookups[strand][side];
+        let last = &all[all.len().saturating_sub(KEPT_LOOKUPS)..];
+        let without = last.iter().filter(|found| !**found).count();
+        (without * 1000 / last.len()) as u64
     }
 
     fn pointers(&self, strand: usize, side: usize) -> Bytes {

@@ -1,4 +1,4 @@
-//! A second model of the unit and its miss handler, written from the documents and not from the proved code, with the plain
+//! A second model of the unit, its miss handler and its miss rates, written from the documents and not from the proved code, with the plain
 //! ledger of demand 3 beside it and the streams, tables and states on which all three are compared.
 pub mod broken;
 pub mod changes;
@@ -11,6 +11,7 @@ pub mod library;
 pub mod misses;
 pub mod model;
 pub mod random;
+pub mod record;
 pub mod states;
 pub mod sweeps;
 pub mod tables;

@@ -15,7 +15,7 @@ const USAGE: &str = "model [--seed N] [--streams N] [--broken NAME] [--quiet] [-
   --misses FILE   hand-checked serves through model, ledger and library
   --printed A B   the stream program's input A and its output B, likewise
   --program PATH  the stream program; it takes the runs of every 40th stream, too, each from reset
-  --sweeps        operands, registers, attributes, one-bit flips of a state, page sizes side by side: each case once
+  --sweeps        operands, registers, attributes, one-bit flips of a state, page sizes side by side, histories of lookups: each case once
   --quiet         no coverage table";
 
 struct Options {
@@ -78,11 +78,11 @@ fn text_of(path: &String) -> String {
     String::from_utf8(read_file(path)).unwrap_or_else(|e| fail(&e.to_string()))
 }
 
-/// Whether the answers in a file changed since version 1.2.0 only where a bypass into I/O space traps now; 1 where anything else did.
+/// Whether the runs in a file changed since version 2.0.0 only where they come to the byte 0x0A; 1 where anything else did.
 fn changed(path: &String) -> u64 {
     match changes::count(&text_of(path)) {
-        Ok(n) => println!("model: {path}: {n} answers changed since version 1.2.0, by bypasses into I/O space alone"),
-        Err(error) => return differs(path, "answers since version 1.2.0", "", &format!("{error}\n")),
+        Ok(n) => println!("model: {path}: {n} runs changed since version 2.0.0, by the byte 0x0A alone"),
+        Err(error) => return differs(path, "runs since version 2.0.0", "", &format!("{error}\n")),
     }
     0
 }

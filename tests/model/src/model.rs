@@ -1,7 +1,9 @@
-//! The unit as document 01 has it, with document 02's miss handler: plain structs, one scan for each question. Comments name the section
-//! that decides. Only the places of registers and slots in the lent words are the library's; what they mean is written here again.
+//! The unit as document 01 has it, with document 02's miss handler and miss rates: plain structs, one scan for each question. Comments
+//! name the section that decides. Only the places of registers, slots and records in the lent words are the library's; what they mean is
+//! written again, here and in `record`.
 use crate::broken::{self, Broken};
 use crate::command::{decode, width, Command};
+use crate::record::Record;
 use t1mmu::numbers::{cell_at, slot_at, ANSWER_BYTES, CELLS, REGISTERS, SIDES, SLOTS, SLOT_WORDS, STATE_WORDS, STRANDS};
 pub use t1mmu::sys::{Part, Report};
 
@@ -21,6 +23,8 @@ pub struct Model {
     /// by strand and number; 6 and 7 are no registers and stay 0
     pub registers: [[u64; REGISTERS]; STRANDS],
     pub sides: [[Option<Entry>; SLOTS]; SIDES],
+    /// of lookups, by strand and side
+    pub records: [[Record; SIDES]; STRANDS],
     /// what happened inside, for coverage
     pub events: Vec<Event>,
 }
@@ -35,6 +39,8 @@ pub enum Event {
     Bypassed { kind: u8, io: bool },
     /// a bypass that I/O space does not take; whether translation is on, the selected context is not 0, and a bit above 39 is set
     IoFault { kind: u8, translating: bool, context: bool, above: bool },
+    /// a rate was told, of as many lookups as are ever kept or of fewer
+    Rated { full: bool, rate: u64 },
     /// a table of the right length was looked at; whether the one not looked at has the length that its own N asks for
     Looked { other: bool, unused_right: bool },
     /// the TSB entry fails by this alone
@@ -222,7 +228,7 @@ impl Model {
         for strand in &mut registers {
             strand[3] = 2;
         }
-        Model { registers, sides: [[None; SLOTS]; SIDES], events: Vec::new() }
+        Model { registers, sides: [[None; SLOTS]; SIDES], records: Default::default(), events: Vec::new() }
     }
 
     /// The state that the words hold; none where it is not sound (number 1).
@@ -246,6 +252,11 @@ impl Model {
         for (side, slots) in model.sides.iter_mut().enumerate() {
             *slots = side_of(&words[slot_at(side, 0)..slot_at(side + 1, 0)])?;
         }
+        for (strand, records) in model.records.iter_mut().enumerate() {
+            for (side, record) in records.iter_mut().enumerate() {
+                *record = Record::from_words(words, strand, side)?;
+            }
+        }
         Some(model)
     }
 
@@ -259,11 +270,14 @@ impl Model {
                 words[slot_at(side, i)..][..SLOT_WORDS].copy_from_slice(&words_of(slot));
             }
         }
+        for (strand, records) in self.records.iter().enumerate() {
+            records.iter().enumerate().for_each(|(side, record)| record.to_words(&mut words, strand, side));
+        }
         words
     }
 }
 
-// ---- questions 5 to 13
+// ---- questions 5 to 13, and 15
 
 fn side_of_kind(kind: u8) -> usize {
     if kind == 0 {
@@ -314,6 +328,12 @@ impl Model {
             }
             Command::Read { strand, register } => first_failing(&[(5, strand_fails(strand)), (9, !known(register))]),
             Command::Pointers { strand, side } => first_failing(&[(5, strand_fails(strand)), (6, side > 1)]),
+            Command::Rate { strand, side } => {
+                // Nor is the record of a side that is none: number 6 comes before 15.
+                let empty = self.records.get(strand as usize).is_some_and(|of| of[record_side(side.min(1) as usize)].is_empty());
+                let before_6 = empty && broken::is(Broken::RateAskedBeforeSide);
+                first_failing(&[(5, strand_fails(strand)), (15, before_6), (6, side > 1), (15, empty)])
+            }
         }
     }
 
@@ -479,6 +499,9 @@ impl Model {
             return Answer::Physical { attributes, code, address: a.address % (1 << 40) };
         }
         if !in_range(a.address) {
+            if broken::is(Broken::RangeNoted) {
+                self.note(a.strand, a.side, true);
+            }
             return self.trap(a, if fetch { 0x08 } else { 0x30 }, 0x20);
         }
         let translating = bit(registers[4], a.side as u32);
@@ -491,10 +514,12 @@ impl Model {
         let real = entry.real;
         self.events.push(Event::Found(*entry));
         let fault = fault_type(word, mode, a.kind);
+        let protected = (a.kind == 2 || a.kind == 3) && !bit(word, 6);
+        self.note(a.strand, a.side, broken::is(Broken::FaultNotedAsMiss) && (fault != 0 || protected));
         if fault != 0 {
             return self.trap(a, if fetch { 0x08 } else { 0x30 }, fault);
         }
-        if (a.kind == 2 || a.kind == 3) && !bit(word, 6) {
+        if protected {
             return self.trap(a, 0x6C, 0);
         }
         let attributes = bit(word, 10) as u8 + 2 * bit(word, 11) as u8 + 4 * bit(word, 12) as u8;
@@ -512,6 +537,7 @@ impl Model {
     }
 
     fn miss(&mut self, a: &Access, translating: bool) -> Answer {
+        self.note(a.strand, a.side, true);
         if broken::is(Broken::UsedBitOnMiss) {
             if let Some(e) = &mut self.sides[a.side][0] {
                 e.used = true;
@@ -594,6 +620,27 @@ fn fault_type(word: u64, mode: u64, kind: u8) -> u8 {
 /// The address bits of an entry word.
 fn word_address(word: u64) -> u64 {
     word & 0x00FF_FFFF_FFFF_E000
+}
+
+// ---- miss rates (document 02, U5)
+
+/// Whose record is meant, by a model that may be broken.
+fn record_side(side: usize) -> usize {
+    if broken::is(Broken::OneRecordForSides) { 0 } else { side }
+}
+
+impl Model {
+    /// A lookup found an entry, or it missed.
+    fn note(&mut self, strand: u8, side: usize, missed: bool) {
+        self.records[strand as usize][record_side(side)].note(missed);
+    }
+
+    fn rate(&mut self, strand: u8, side: u8) -> Answer {
+        let record = &self.records[strand as usize][record_side(side as usize)];
+        let rate = record.rate();
+        self.events.push(Event::Rated { full: record.is_full(), rate });
+        Answer::Read { first: rate, second: 0 }
+    }
 }
 
 // ---- pointers
@@ -741,6 +788,9 @@ impl Model {
             self.registers[strand as usize][24 + side as usize] = 0;
         }
         let answer = self.insert(side as usize, new);
+        if broken::is(Broken::ServeNoted) {
+            self.note(strand, side as usize, false);
+        }
         self.events.push(Event::Served(new));
         answer
     }
@@ -800,11 +850,15 @@ impl Model {
             }
             Command::Invalidate { side } => {
                 self.remove(side, |_| true);
+                if broken::is(Broken::InvalidateForgetsLookups) {
+                    self.records.iter_mut().for_each(|of| of[side as usize] = Record::default());
+                }
                 Answer::Done { count: 0 }
             }
             Command::Access { strand, kind, selector, size, address } => self.access(strand, kind, selector, size, address),
             Command::Read { strand, register } => Answer::Read { first: self.registers[strand as usize][register as usize], second: 0 },
             Command::Pointers { strand, side } => self.pointers(strand, side),
+            Command::Rate { strand, side } => self.rate(strand, side),
         }
     }
 

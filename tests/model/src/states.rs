@@ -2,7 +2,9 @@
 use crate::generate::Scene;
 use crate::model::{in_range, known, page_size, word_allowed, Entry, Model};
 use crate::random::Random;
+use crate::record::{outcomes_at, seen_at, Record, SEEN_MOST};
 use t1mmu::numbers::{cell_at, slot_at, CELLS, PARTITION, REGISTERS, SIDES, SLOTS, SLOT_WORDS, STATE_WORDS, STRANDS};
+use t1mmu::numbers::{KEPT_LOOKUPS, NEWEST, OLDER, SEEN};
 
 #[derive(Clone, Copy, Debug, PartialEq, Eq)]
 pub enum Start {
@@ -14,11 +16,12 @@ pub enum Start {
     DirtyEmptySlot,
     RandomCell,
     BadPage,
+    BadRecord,
     WrongLength,
     Noise,
 }
 
-pub const STARTS: [Start; 10] = [
+pub const STARTS: [Start; 11] = [
     Start::Reset,
     Start::Sound,
     Start::FlippedBit,
@@ -27,6 +30,7 @@ pub const STARTS: [Start; 10] = [
     Start::DirtyEmptySlot,
     Start::RandomCell,
     Start::BadPage,
+    Start::BadRecord,
     Start::WrongLength,
     Start::Noise,
 ];
@@ -48,7 +52,16 @@ fn an_entry(r: &mut Random, scene: &Scene) -> Option<Entry> {
     })
 }
 
-/// A sound state, its sides anything from empty to full.
+/// A record of no lookup, of few, of about as many as are kept, or of more.
+fn a_record(r: &mut Random) -> Record {
+    let few = r.below(130) as usize;
+    let about = KEPT_LOOKUPS - 2 + r.below(5) as usize;
+    let count = r.pick(&[0, 0, 1, few, about, KEPT_LOOKUPS + 64 + few]);
+    let percent = r.pick(&[0, 1, 50, 99, 100]);
+    Record::of((0..count).map(|_| r.percent(percent)))
+}
+
+/// A sound state, its sides and records anything from empty to full.
 pub fn sound(r: &mut Random, scene: &Scene) -> Model {
     let mut model = Model::reset();
     for strand in &mut model.registers {
@@ -69,6 +82,7 @@ pub fn sound(r: &mut Random, scene: &Scene) -> Model {
             fill_slot(&mut model.sides[side], an_entry(r, scene), r.below(SLOTS as u64) as usize, wanted, locked, used);
         }
     }
+    model.records.iter_mut().flatten().for_each(|record| *record = a_record(r));
     model
 }
 
@@ -108,6 +122,17 @@ fn plant_overlap(r: &mut Random, words: &mut [u64]) {
     words[to + 1] &= !(page_size(code).expect("a listed size") - 1);
 }
 
+/// Another count, or one more outcome.
+fn damage_record(r: &mut Random, words: &mut [u64]) {
+    let (strand, side) = (r.below(STRANDS as u64) as usize, r.below(SIDES as u64) as usize);
+    let most = SEEN_MOST as u64;
+    if r.percent(50) {
+        words[seen_at(strand, side)] = r.pick(&[0, 1, KEPT_LOOKUPS as u64, most, most + 1, 1 << 32 | most, 1 << 63]);
+    } else {
+        words[r.pick(&outcomes_at(strand, side))] |= 1 << r.below(64);
+    }
+}
+
 /// The words that a stream starts from.
 pub fn words(r: &mut Random, scene: &Scene, start: Start) -> Vec<u64> {
     let mut words = if start == Start::Reset { Model::reset() } else { sound(r, scene) }.to_words();
@@ -130,8 +155,9 @@ pub fn words(r: &mut Random, scene: &Scene, start: Start) -> Vec<u64> {
             let at = a_slot(r);
             words[at + 1] ^= r.pick(&[1, 0x1000, 0x2000, 0x8000, 0x10000, 0x20_0000, 0x40_0000, 0x800_0000, 1 << 28, 1 << 46, 1 << 47, 1 << 63]);
         }
+        Start::BadRecord => damage_record(r, &mut words),
         Start::WrongLength => {
-            let parts = [0, 1, SLOT_WORDS, slot_at(0, 0), slot_at(1, 0)];
+            let parts = [0, 1, SLOT_WORDS, slot_at(0, 0), slot_at(1, 0), SEEN, NEWEST, OLDER];
             let near = [STATE_WORDS - SLOT_WORDS, STATE_WORDS - 1, STATE_WORDS + 1, STATE_WORDS + SLOT_WORDS];
             let length = r.pick(&[&parts[..], &near, &[slot_at(SIDES + 1, 0), 2 * STATE_WORDS]].concat());
             words.resize(length, 0);

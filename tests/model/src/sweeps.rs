@@ -1,32 +1,58 @@
 //! Cases taken one after the other instead of at random: every operand byte, every register with values at its bounds, every
 //! attribute of a word in every mode, bypasses at the ends of I/O space, every state that is one bit away from a full one, every pair of
-//! page sizes side by side, every TSB entry that is one bit away from one that fits.
+//! page sizes side by side, every TSB entry that is one bit away from one that fits, histories of lookups until a record has come round.
 use crate::command::{encode, width, Command};
 use crate::compare::{Step, Stream};
 use crate::generate::Run;
 use crate::model::{Entry, Model};
+use crate::random::Random;
+use crate::record::{outcomes_at, seen_at, Record, SEEN_MOST};
 use crate::states::Start;
 use crate::tables::{place_of, tag_for, Miss, Table, TsbEntry};
 use t1mmu::numbers::{tsb_base_of, tsb_bytes, tsb_configuration_of};
 use t1mmu::numbers::{ADDRESS_MASK, FAULT_ADDRESS, FAULT_STATUS, MODE, PRIMARY_CONTEXT, SECONDARY_CONTEXT, TAG_ACCESS, TRANSLATION};
-use t1mmu::numbers::{ANSWER_BYTES, SLOTS, STATE_WORDS};
+use t1mmu::numbers::{ANSWER_BYTES, SIDES, SLOTS, STATE_WORDS, STRANDS};
 
 const PAGE: u64 = 0x4000_0000;
 
-fn from_reset(seed: u64, commands: Vec<Command>) -> Stream {
+/// A run with room for all its answers, and for part of another one.
+fn run_of(commands: Vec<Command>) -> Step {
     let room = ANSWER_BYTES * commands.len() + 7;
-    let input = commands.into_iter().flat_map(encode).collect();
-    Stream { seed, start: Start::Reset, words: Model::reset().to_words(), steps: vec![Step::Run(Run { input, room })] }
+    Step::Run(Run { input: commands.into_iter().flat_map(encode).collect(), room })
+}
+
+fn steps_from_reset(seed: u64, steps: Vec<Step>) -> Stream {
+    Stream { seed, start: Start::Reset, words: Model::reset().to_words(), steps }
+}
+
+fn from_reset(seed: u64, commands: Vec<Command>) -> Stream {
+    steps_from_reset(seed, vec![run_of(commands)])
 }
 
 fn from_words(seed: u64, start: Start, words: Vec<u64>) -> Stream {
-    let input = [Command::Read { strand: 0, register: MODE }, Command::DemapAll { strand: 0, side: 1 }].into_iter().flat_map(encode).collect();
+    let commands = [Command::Read { strand: 0, register: MODE }, Command::DemapAll { strand: 0, side: 1 }];
     // a sound state gets to the length of its table, which is refused with 14
     let miss = Miss { strand: 0, side: 1, zero: Table::default(), other: Table::default() };
-    Stream { seed, start, words, steps: vec![Step::Serve(miss), Step::Run(Run { input, room: 2 * ANSWER_BYTES + 12 })] }
+    Stream { seed, start, words, steps: vec![Step::Serve(miss), run_and_rates(commands)] }
 }
 
-/// Both sides full: all sizes, partitions and contexts, real and virtual, locked and not.
+/// A run that ends in the rates of all records.
+fn run_and_rates(commands: impl IntoIterator<Item = Command>) -> Step {
+    run_of(commands.into_iter().chain(rates()).collect())
+}
+
+/// The strand and side of each record.
+fn records() -> impl Iterator<Item = (u8, u8)> {
+    (0..STRANDS as u8).flat_map(|strand| (0..SIDES as u8).map(move |side| (strand, side)))
+}
+
+/// The rates of all records.
+fn rates() -> impl Iterator<Item = Command> {
+    records().map(|(strand, side)| Command::Rate { strand, side })
+}
+
+/// Both sides full: all sizes, partitions and contexts, real and virtual, locked and not. The records have all bits that they may have: none,
+/// those of one lookup, of a word and one more or fewer, of all but one, all while the count goes on and after.
 fn full_state() -> Vec<u64> {
     let mut model = Model::reset();
     for (i, slot) in model.sides.iter_mut().flatten().enumerate() {
@@ -41,6 +67,9 @@ fn full_state() -> Vec<u64> {
             locked: q % 3 == 0,
             used: q % 7 != 0,
         });
+    }
+    for (record, count) in model.records.iter_mut().flatten().zip([0, 1, 63, 65, 1023, 1024, 1025, 1088]) {
+        *record = Record::of(vec![true; count]);
     }
     let words = model.to_words();
     assert!(Model::from_words(&words).is_some(), "flips start from a sound state");
@@ -77,6 +106,7 @@ fn operands() -> Stream {
         Command::Access { strand: 1, kind: 0, selector: 0, size: 2, address: PAGE },
         Command::Read { strand: 1, register: TAG_ACCESS + 1 },
         Command::Pointers { strand: 1, side: 1 },
+        Command::Rate { strand: 1, side: 1 },
     ];
     let mut input = Vec::new();
     for mode in 0..3 {
@@ -96,7 +126,7 @@ fn operands() -> Stream {
     }
     // No command has fewer than two bytes.
     let room = ANSWER_BYTES * input.len() / 2;
-    Stream { seed: 2, start: Start::Reset, words: Model::reset().to_words(), steps: vec![Step::Run(Run { input, room })] }
+    steps_from_reset(2, vec![Step::Run(Run { input, room })])
 }
 
 /// Every command code, alone and with operands, with and without room.
@@ -109,7 +139,7 @@ fn codes() -> Vec<Stream> {
     let longest = (0..=255).filter_map(width).max().expect("a known code");
     let rooms = [0, ANSWER_BYTES - 1, ANSWER_BYTES, ANSWER_BYTES + 1, 2 * ANSWER_BYTES];
     let steps = |code: u8| (1..=longest).flat_map(move |n| rooms.map(|room| run(code, n, room))).collect();
-    (0..=255).map(|code| Stream { seed: code as u64, start: Start::Reset, words: Model::reset().to_words(), steps: steps(code) }).collect()
+    (0..=255).map(|code| steps_from_reset(code as u64, steps(code))).collect()
 }
 
 /// All of nfo, ie, e, cp, p, w in one mode, translation and mask, met by every kind, selector and size.
@@ -130,6 +160,7 @@ fn attributes(mode: u64, translation: u64, mask: u64) -> Stream {
             }
         }
     }
+    commands.extend(rates());
     from_reset(3 + 8 * mode + 2 * translation + mask, commands)
 }
 
@@ -160,6 +191,7 @@ fn bypasses(mode: u64, translation: u64, mask: u64) -> Stream {
         }
         (0..64).for_each(|b| [1 << b, !(1u64 << b)].into_iter().for_each(|address| add(kind, 0, if kind == 0 { 2 } else { 0 }, address)));
     }
+    commands.extend(rates());
     from_reset(10 + 8 * mode + 2 * translation + mask, commands)
 }
 
@@ -218,17 +250,16 @@ struct Asked {
 const MISSED: u64 = 0x0000_1234_5A5A_6000;
 
 impl Asked {
-    fn registers(&self) -> Run {
+    fn registers(&self) -> Step {
         let (side, nonzero) = (self.side, self.context != 0);
         let write = |register, value| Command::Write { strand: self.strand, register, value };
-        let commands = [
+        run_of(vec![
             write(tsb_base_of(side, nonzero, 0), 0x7_0000_0000 + self.n as u64),
             write(tsb_base_of(side, nonzero, 1), 0x7_0000_0000 + (self.n as u64 + 1) % 16),
             write(tsb_base_of(side, !nonzero, 0), 0x7_0000_0000 + (self.n as u64 + 2) % 16),
             write(tsb_configuration_of(side, nonzero), self.code + 256 * if self.code == 0 { 1 } else { 0 }),
             write(TAG_ACCESS + side, MISSED + self.context),
-        ];
-        Run { room: ANSWER_BYTES * commands.len(), input: commands.into_iter().flat_map(encode).collect() }
+        ])
     }
 
     fn fitting(&self) -> TsbEntry {
@@ -244,8 +275,7 @@ impl Asked {
     }
 
     fn stream(&self, seed: u64, misses: impl Iterator<Item = Step>) -> Stream {
-        let steps = [Step::Run(self.registers())].into_iter().chain(misses).collect();
-        Stream { seed, start: Start::Reset, words: Model::reset().to_words(), steps }
+        steps_from_reset(seed, [self.registers()].into_iter().chain(misses).collect())
     }
 }
 
@@ -281,10 +311,175 @@ fn tsb_operands() -> Stream {
     asked.stream(9, (0..=255).flat_map(|byte| [with(byte, 0), with(0, byte), with(byte, 2)]))
 }
 
+/// On all strands mode 1 with both sides translating, and one page on each side, in which stores fault.
+fn looking_up() -> Vec<Command> {
+    let strands = 0..STRANDS as u8;
+    let write = |strand: u8, register: u8, value: u64| Command::Write { strand, register, value };
+    let mut commands: Vec<Command> = strands.flat_map(|strand| [write(strand, TRANSLATION, 3), write(strand, MODE, 1)]).collect();
+    for side in 0..SIDES as u8 {
+        commands.push(write(0, TAG_ACCESS + side, PAGE));
+        commands.push(Command::Insert { strand: 0, side, flags: 0, word: 1 << 63 | 0x400 });
+    }
+    commands
+}
+
+/// The lookup number n of a strand and side, which misses or finds the page; on the data side by each kind in turn.
+fn lookup((strand, side): (u8, u8), n: usize, missed: bool) -> Command {
+    let kind = side * (1 + n as u8 % 4);
+    Command::Access { strand, kind, selector: 0, size: 2, address: PAGE + 8 * (n as u64 % 1024) + if missed { 0x2000 } else { 0 } }
+}
+
+/// Whether lookup n misses: never, always, by a pattern that does not come round with a word, at random.
+const MIXES: [fn(usize, &mut Random) -> bool; 4] = [|_, _| false, |_, _| true, |n, _| n * n % 11 < 4, |_, r| r.percent(30)];
+
+/// As many lookups on each record, one on each in turn, by one mix or another; now and then all rates.
+fn history(length: usize, turn: usize) -> Stream {
+    let mut r = Random::new((length * MIXES.len() + turn) as u64);
+    let mut commands = Vec::new();
+    for n in 0..length {
+        commands.extend(records().enumerate().map(|(i, of)| lookup(of, n, MIXES[(i + turn) % MIXES.len()](n, &mut r))));
+    }
+    let parts = commands.chunks(997).map(|part| run_and_rates(part.to_vec()));
+    steps_from_reset(11, [run_and_rates(looking_up())].into_iter().chain(parts).collect())
+}
+
+/// Histories at and around the lengths at which a record is full and has come round, and of one lookup and none.
+fn histories() -> impl Iterator<Item = Stream> {
+    let lengths = [0, 1].into_iter().chain(1023..=1026).chain(2047..=2050).chain([5000]);
+    lengths.flat_map(|length| (0..MIXES.len()).map(move |turn| history(length, turn)))
+}
+
+/// From records of every count, another one for each strand and side: lookups past the next two words.
+fn further() -> impl Iterator<Item = Stream> {
+    (0..=SEEN_MOST).map(|count| {
+        let mut r = Random::new(count as u64);
+        let mut model = Model::reset();
+        for (i, record) in model.records.iter_mut().flatten().enumerate() {
+            *record = Record::of((0..(count + 137 * i) % (SEEN_MOST + 1)).map(|_| r.percent(50)));
+        }
+        let lookups = (0..130).map(|n| run_and_rates(records().map(|of| lookup(of, n, n % 3 == 0))));
+        let steps = [run_of(looking_up())].into_iter().chain(lookups).collect();
+        Stream { seed: 12, start: Start::Sound, words: model.to_words(), steps }
+    })
+}
+
+/// Refusals of a rate in their order, on empty records and with one lookup of one strand and side.
+fn rate_refusals() -> Stream {
+    let bytes = [0, 1, 2, 3, 4, 5, 127, 128, 255];
+    let all = || bytes.into_iter().flat_map(|strand| bytes.map(|side| Command::Rate { strand, side }));
+    from_reset(13, looking_up().into_iter().chain(all()).chain([lookup((2, 1), 0, true)]).chain(all()).collect())
+}
+
+/// A hit and a miss on each record: one more of either would change the rate.
+fn hit_and_miss() -> impl Iterator<Item = Command> {
+    records().flat_map(|of| [lookup(of, 0, false), lookup(of, 1, true)])
+}
+
+/// Accesses that never look up, each on every strand: misaligned, of the nucleus in mode 0, bypasses, out of range, refused.
+fn no_lookups() -> Vec<Command> {
+    const IO: u64 = 0x80_0000_0000;
+    const OUT: u64 = 0x0000_8000_0000_0000;
+    // mode, kind, selector, size, address
+    let mut all = vec![(1, 1, 0, 1, PAGE + 1), (1, 0, 0, 2, PAGE + 2), (0, 3, 0, 3, PAGE + 4), (0, 1, 2, 3, PAGE), (0, 4, 2, 3, PAGE)];
+    all.extend((0..5).flat_map(|kind| [(2, kind, 0, 2, PAGE), (2, kind, 0, 2, IO)]));
+    all.extend((0..5).flat_map(|kind| [(0, kind, 0, 2, OUT), (1, kind, 0, 2, OUT + PAGE)]));
+    all.extend([(1, 5, 0, 3, PAGE), (1, 1, 3, 3, PAGE), (1, 0, 1, 2, PAGE), (0, 0, 2, 2, PAGE), (1, 1, 0, 4, PAGE), (1, 0, 0, 3, PAGE)]);
+    let mut commands = Vec::new();
+    for strand in 0..STRANDS as u8 {
+        for &(mode, kind, selector, size, address) in &all {
+            commands.push(Command::Write { strand, register: MODE, value: mode });
+            commands.push(Command::Access { strand, kind, selector, size, address });
+            commands.extend(rates());
+        }
+    }
+    commands.push(Command::Access { strand: STRANDS as u8, kind: 1, selector: 0, size: 3, address: PAGE });
+    commands.extend(rates());
+    commands
+}
+
+/// Commands that are no access, each on every strand and side, with the rates after each of them.
+fn other_commands() -> Vec<Command> {
+    let each = |(strand, side)| {
+        [
+            Command::Write { strand, register: MODE, value: 2 },
+            Command::Write { strand, register: TAG_ACCESS + side, value: PAGE },
+            Command::Insert { strand, side, flags: 0, word: 1 << 63 },
+            Command::DemapPage { strand, side, selector: 0, flags: 0, address: PAGE },
+            Command::DemapContext { strand, side, selector: 0 },
+            Command::DemapAll { strand, side },
+            Command::Invalidate { side },
+            Command::Read { strand, register: FAULT_STATUS + side },
+            Command::Pointers { strand, side },
+            Command::Rate { strand, side },
+        ]
+    };
+    records().flat_map(each).flat_map(|command| [command].into_iter().chain(rates())).collect()
+}
+
+/// What is no lookup leaves every record, empty or not.
+fn untouched() -> Vec<Stream> {
+    let quiet = || looking_up().into_iter().chain(no_lookups()).chain(other_commands());
+    vec![from_reset(14, quiet().collect()), from_reset(14, looking_up().into_iter().chain(hit_and_miss()).chain(quiet()).collect())]
+}
+
+/// So does a serve, of an entry that fits, of one that does not, and one that is refused.
+fn served() -> Stream {
+    let mut steps = vec![run_of(looking_up().into_iter().chain(hit_and_miss()).collect())];
+    for (strand, side) in records() {
+        let asked = Asked { strand, side, context: 5, n: 0, code: 0 };
+        let other = TsbEntry { tag: 0, ..asked.fitting() };
+        let misses = [(asked.fitting(), tsb_bytes(0)), (other, tsb_bytes(0)), (asked.fitting(), 0)];
+        steps.push(asked.registers());
+        steps.extend(misses.into_iter().flat_map(|(entry, length)| [asked.miss(entry, length, 0), run_and_rates([])]));
+    }
+    steps_from_reset(15, steps)
+}
+
+/// The words of reset, but for one record of as many misses.
+fn all_missed((strand, side): (u8, u8), count: usize) -> Vec<u64> {
+    let mut words = Model::reset().to_words();
+    Record::of(vec![true; count]).to_words(&mut words, strand as usize, side as usize);
+    words
+}
+
+/// Every count up to the greatest and past it, over no outcome and over a bit in every place.
+fn damaged_counts(of: (u8, u8)) -> impl Iterator<Item = Vec<u64>> {
+    let counts = (0..=SEEN_MOST as u64 + 1).chain([1 << 32, 1 << 32 | 1, 1 << 63, u64::MAX]);
+    counts.flat_map(move |count| {
+        [0, SEEN_MOST].map(|under| {
+            let mut words = all_missed(of, under);
+            words[seen_at(of.0 as usize, of.1 as usize)] = count;
+            words
+        })
+    })
+}
+
+/// For counts at the ends of words all outcomes that they may have, and with each bit more.
+fn damaged_outcomes(of: (u8, u8)) -> impl Iterator<Item = Vec<u64>> {
+    let counts = [0, 1, 2, 63, 64, 65, 127, 128, 129, 960, 961, 1023, 1024];
+    counts.into_iter().flat_map(move |count| {
+        let allowed = all_missed(of, count);
+        let bits = outcomes_at(of.0 as usize, of.1 as usize).into_iter().flat_map(|at| (0..u64::BITS).map(move |bit| (at, 1 << bit)));
+        let more: Vec<(usize, u64)> = bits.filter(|(at, bit)| allowed[*at] & bit == 0).collect();
+        [(0, 0)].into_iter().chain(more).map(move |(at, bit)| {
+            let mut words = allowed.clone();
+            words[at] |= bit;
+            words
+        })
+    })
+}
+
+fn damaged() -> impl Iterator<Item = Stream> {
+    let states = records().flat_map(damaged_counts).chain(records().flat_map(damaged_outcomes));
+    states.map(|words| from_words(16, Start::BadRecord, words))
+}
+
 pub fn all() -> impl Iterator<Item = Stream> {
     let each = || (0..3).flat_map(|mode| (0..4).flat_map(move |translation| (0..2).map(move |mask| (mode, translation, mask))));
     let modes = each().flat_map(|(mode, translation, mask)| [attributes(mode, translation, mask), bypasses(mode, translation, mask)]);
     let lengths = (0..=2 * STATE_WORDS + 120).filter(|n| *n != STATE_WORDS).map(|n| from_words(6, Start::WrongLength, vec![0; n]));
     let misses = tsb_bits().chain(tsb_lengths()).chain([tsb_operands()]);
-    [registers(), operands()].into_iter().chain(codes()).chain(modes).chain(neighbours()).chain(flips()).chain(lengths).chain(misses)
+    let lookups = histories().chain(further()).chain([rate_refusals(), served()]).chain(untouched()).chain(damaged());
+    let states = neighbours().into_iter().chain(flips()).chain(lengths);
+    [registers(), operands()].into_iter().chain(codes()).chain(modes).chain(states).chain(misses).chain(lookups)
 }

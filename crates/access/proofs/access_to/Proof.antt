@@ -21,10 +21,10 @@ take-trap-requires c κs =
 
 look-up-requires : tie.Need-look-up-requires
 look-up-requires c κs =
-    let at = c .before .before .before in
+    let at = c .before .before in
     let prepare = at .before .before in
     let s = prepare .before .before .before in
-    (s .pre .0, s .pre .1, s .pre .3, rw (at .prepared3 .given .1) at (prepare .prepare-access .ensures .1))
+    (s .pre .0, s .pre .1, s .pre .3)
 
 returns : tie.Need-returns
 returns c =
@@ -42,8 +42,8 @@ returns-2 c =
 returns-3 : tie.Need-returns-3
 returns-3 c =
     let call = c .before .before in
-    let at = call .before .before .before .before in
-    rw (sym (at .before .before .prepare-access .ensures .0) ∙ at .prepared3 .given .1) (call .look-up .ensures)
+    let at = call .before .before .before in
+    rw (sym (at .before .before .prepare-access .ensures .0) ∙ at .enum-told .given .1) (call .look-up .ensures)
 
 pub access-to-spec : {M : Type 1} → statement M
 access-to-spec =

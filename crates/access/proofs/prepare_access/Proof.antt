@@ -70,7 +70,7 @@ returns-4 c =
 returns-5 : tie.Need-returns-5
 unfolding prepare
 returns-5 c =
-    let four = c .before in
+    let four = c in
     let three = four .before .before in
     let two = three .before in
     let read = two .before .before in
@@ -84,9 +84,8 @@ returns-5 c =
         ne-eqb _ _ (three .if3 .left),
         ← (four .before .in-range .ensures),
         four .if4 .left,
-        c .key-of-access .ensures .0,
       ),
-      c .key-of-access .ensures .1,
+      tt,
     )
 
 pub prepare-access-spec : {M : Type 1} → statement M
@@ -104,5 +103,4 @@ prepare-access-spec =
     (λ c κs. search needs)
     (λ c κs. search needs)
     returns-4
-    (λ c κs. search needs)
     returns-5)

@@ -15,7 +15,7 @@ returns c =
     let a = start .args .a in
     let u : State = stateIn (start .args .state .now) in
     let z = sized-words counts (start .args .state .now) (start .pre .0) in
-    let l = trap-length (u .registers) a (start .args .trap) (start .args .tag) ∙ z .0 in
+    let l = trap-length (u .registers) a (start .args .trap) (start .args .tag) ∙ z .registers in
     let back = registers-back u z (trapRegisters (u .registers) a (start .args .trap) (start .args .tag)) l (call .write-trap .ensures) in
     record { words = call .write-trap .ensures; answer = rw (c .tag-of .ensures, back) }
 

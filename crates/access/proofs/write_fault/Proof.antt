@@ -32,7 +32,7 @@ returns c =
     let z = sized-words counts (s .args .state .now) (s .pre .0) in
     let file : List ℕ = withRegister (u .registers) (a .strand) (22 + a .side) (a .used .0) in
     rw (← (number .trap-number .ensures), ← (call .before .trap-fault .ensures))
-    (written-more u z file (length-set (u .registers) _ _ ∙ z .0) (one .write-side .ensures) (a .strand) (24 + a .side) _ (call .write-side2 .ensures))
+    (written-more u z file (length-set (u .registers) _ _ ∙ z .registers) (one .write-side .ensures) (a .strand) (24 + a .side) _ (call .write-side2 .ensures))
 
 pub write-fault-spec : {M : Type 1} → statement M
 write-fault-spec =

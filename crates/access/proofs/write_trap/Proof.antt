@@ -30,7 +30,7 @@ returns c =
     let z = sized-words counts (s .args .state .now) (s .pre .0) in
     let file : List ℕ = trapRegisters (u .registers) a (s .args .trap) Kept in
     rw (tag .tag .given .1)
-    (written-more u z file (trap-length (u .registers) a (s .args .trap) Kept ∙ z .0) (fault .write-fault .ensures) (a .strand) (20 + a .side) _
+    (written-more u z file (trap-length (u .registers) a (s .args .trap) Kept ∙ z .registers) (fault .write-fault .ensures) (a .strand) (20 + a .side) _
     (call .write-side .ensures))
 
 returns-2 : tie.Need-returns-2

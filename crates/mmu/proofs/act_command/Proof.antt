@@ -27,6 +27,13 @@ returns-9 c =
     let e = c .before .before .before .command9 .given .1 in
     record { words = rw e (sym (encode-state counts _ (start .pre .lent))); answer = c .act-pointers .ensures ∙ rw e }
 
+returns-10 : tie.Need-returns-10
+unfolding act
+returns-10 c =
+    let start = c .before .before .before .before .before .before in
+    let e = c .before .before .before .command10 .given .1 in
+    record { words = rw e (sym (encode-state counts _ (start .pre .lent))); answer = c .act-rate .ensures ∙ rw e }
+
 pub act-command-spec : {M : Type 1} → statement M
 act-command-spec =
     tie.close
@@ -50,6 +57,8 @@ act-command-spec =
     (λ c. search needs)
     (λ c κs. let at = c .before .before in rw (at .command9 .given .1) at (at .before .before .before .pre))
     (λ c. search needs)
+    (λ c κs. let at = c .before .before in rw (at .command10 .given .1) at (at .before .before .before .pre))
+    (λ c. search needs)
     (λ c. let did = c .before .before in rw (did .before .before .before .command .given .1) (did .act-write .ensures))
     (λ c. search needs)
     (λ c. let did = c .before .before in rw (did .before .before .before .command2 .given .1) (did .act-insert .ensures))
@@ -66,4 +75,6 @@ act-command-spec =
     (λ c. search needs)
     returns-8
     (λ c. search needs)
-    returns-9)
+    returns-9
+    (λ c. search needs)
+    returns-10)

@@ -31,6 +31,8 @@ question-spec =
     (λ c κs. search needs)
     (λ c. search needs)
     (λ c κs. search needs)
+    (λ c. search needs)
+    (λ c κs. search needs)
     (λ c. rw (c .before .before .command .given .1) (c .ask-write .ensures))
     (λ c. rw (c .before .before .command2 .given .1) (c .ask-insert .ensures))
     (λ c. rw (c .before .before .command3 .given .1) (c .ask-demap-page .ensures))
@@ -39,4 +41,5 @@ question-spec =
     (λ c. rw (c .before .before .command6 .given .1) (c .ask-invalidate .ensures))
     (λ c. rw (c .before .before .command7 .given .1) (c .ask-access .ensures))
     (λ c. rw (c .before .before .command8 .given .1) (c .ask-read .ensures))
-    pointers)
+    pointers
+    (λ c. rw (c .before .before .command10 .given .1) (c .ask-rate .ensures)))

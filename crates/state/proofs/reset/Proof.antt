@@ -12,10 +12,10 @@ use Rattle.state.proofs.reset.Statement.{statement}
 use Rattle.state.proofs.reset.Tie as tie
 
 abbrev Inv-loop : tie.InvT-loop
-Inv-loop state₀ i₀ state i = (i ≤ 640) × (length state ≡ 640) × ((k : ℕ) → k < i → getD state k 0 ≡ resetWord k)
+Inv-loop state₀ i₀ state i = (i ≤ 776) × (length state ≡ 776) × ((k : ℕ) → k < i → getD state k 0 ≡ resetWord k)
 
 abbrev μ-loop : tie.MeasureT-loop
-μ-loop state₀ i₀ state i = 640 - i
+μ-loop state₀ i₀ state i = 776 - i
 
 returns : tie.Need-returns Inv-loop μ-loop
 unfolding resetOf resetNumber

@@ -19,7 +19,8 @@ use Rattle.machine.specs.Step.{step}
 use Rattle.machine.specs.Stream.{Outcome, answerBytes, decodeAt, runOf}
 use Rattle.machine.specs.declared.Answer.{Answer}
 use Rattle.machine.specs.declared.Command.{Command}
-use Rattle.machine.proofs.State.{sound-words, encode-state, sound-encode, step-sound}
+use Rattle.machine.proofs.State.{sound-words, encode-state, sound-encode}
+use Rattle.machine.proofs.Good.{step-sound}
 use Rattle.machine.proofs.Runs.{decode-width, resume, resume-start, Over, resume-end, resume-stop, resume-full, resume-turn, run-unsound}
 use Rattle.wire.specs.Wire.{stopOf, fullStopOf}
 use Rattle.stream.proofs.run.Statement.{statement}

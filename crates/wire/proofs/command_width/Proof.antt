@@ -5,17 +5,18 @@ use Rattle.machine.specs.Stream.{widthOf}
 use Rattle.wire.proofs.command_width.Statement.{statement}
 use Rattle.wire.proofs.command_width.Tie as tie
 
-returns-10 : tie.Need-returns-10
+returns-11 : tie.Need-returns-11
 unfolding widthOf
-returns-10 c =
+returns-11 c =
     let no = c .match .rest in
-    let no-5 = no .0 .0 .0 .0 in
+    let no-5 = no .0 .0 .0 .0 .0 in
     simp (
       ne-eqb _ _ (no-5 .0 .0 .0 .0 .1),
       ne-eqb _ _ (no-5 .0 .0 .0 .1),
       ne-eqb _ _ (no-5 .0 .0 .1),
       ne-eqb _ _ (no-5 .0 .1),
       ne-eqb _ _ (no-5 .1),
+      ne-eqb _ _ (no .0 .0 .0 .0 .1),
       ne-eqb _ _ (no .0 .0 .0 .1),
       ne-eqb _ _ (no .0 .0 .1),
       ne-eqb _ _ (no .0 .1),
@@ -36,4 +37,5 @@ command-width-spec =
     (λ c. rw (c .match .keys7))
     (λ c. rw (c .match .keys8))
     (λ c. rw (c .match .keys9))
-    returns-10)
+    (λ c. rw (c .match .keys10))
+    returns-11)

@@ -26,11 +26,15 @@ there-4 : (c : tie.At-match-keys4) → 3 ≤ length (c .before .before .before .
 unfolding widthOf
 there-4 c = reach (c .match .keys4) (c .before .before .before .pre .0)
 
-returns-6 : tie.Need-returns-6
-returns-6 c =
+there-5 : (c : tie.At-match-keys5) → 3 ≤ length (c .before .before .before .args .rest .now)
+unfolding widthOf
+there-5 c = reach (c .match .keys5) (c .before .before .before .pre .0)
+
+returns-7 : tie.Need-returns-7
+returns-7 c =
     let no = c .match .rest in
     let (whole, short) = c .before .before .before .pre in
-    absurd (no-other _ (no .0 .0 .0 .0 .1) (no .0 .0 .0 .1) (no .0 .0 .1) (no .0 .1) (no .1) (whole .known) short)
+    absurd (no-other _ (no .0 .0 .0 .0 .0 .1) (no .0 .0 .0 .0 .1) (no .0 .0 .0 .1) (no .0 .0 .1) (no .0 .1) (no .1) (whole .known) short)
 
 pub short-command-spec : {M : Type 1} → statement M
 unfolding commandAt
@@ -44,9 +48,11 @@ short-command-spec =
     (λ c. omega (arith, there-2 (c .before)))
     (λ c. omega (arith, there-3 (c .before)))
     (λ c. omega (arith, there-4 (c .before)))
+    (λ c. omega (arith, there-5 (c .before)))
     (λ c. rw (c .before .before .match .keys1))
     (λ c. rw (c .before .match .keys2))
     (λ c. rw (c .before .match .keys3))
     (λ c. rw (c .before .match .keys4))
-    (λ c. rw (c .match .keys5))
-    returns-6)
+    (λ c. rw (c .before .match .keys5))
+    (λ c. rw (c .match .keys6))
+    returns-7)

@@ -1,0 +1,92 @@
+// One miss record (document 02, U5): lookups seen, the newest word of outcomes, and fifteen older ones.
+ghost use mathlib.Core.Path.{_≡_};
+ghost use mathlib.Core.Bool.{_||_};
+ghost use mathlib.Core.List.{_∷_};
+ghost use Prim.Native.Nat.{_+_, _≤_, _<_};
+ghost use lib.Dec.{eqb, ltb};
+ghost use lib.ListN.{length, getD, take};
+ghost use Rattle.laws.specs.Tests.{allBelow};
+ghost use Rattle.machine.specs.Record.{pushed, onesOf, perThousand, recordSound};
+
+// The word with one more lookup in it, which is taken for a hit.
+pub fn push(word: u64) -> u64
+    ensures word { λ r. ⌜ r ≡ pushed word 0 ⌝ }
+    ensures miss { λ r. ⌜ r + 1 ≡ pushed word 1 ⌝ }
+{
+    word % 0x8000_0000_0000_0000 * 2
+}
+
+// Each older word moves up by one place behind the first; the last is handed back.
+pub fn turn(words: &mut [u64], first: u64) -> u64
+    requires { ⌜ length (now words) ≡ 15 ⌝ }
+    ensures words { λ r. ⌜ now (words .exit) ≡ first ∷ take 14 (now (words .entry)) ⌝ }
+    ensures last { λ r. ⌜ r ≡ getD (now (words .entry)) 14 0 ⌝ }
+{
+    let mut word = first;
+    let mut i = 0;
+    while i < machine::OLDER_WORDS {
+        let next = words[i];
+        words[i] = word;
+        word = next;
+        i += 1;
+    }
+    word
+}
+
+// How many bits of the older words are set.
+pub fn count_ones(words: &[u64]) -> u64
+    requires { ⌜ length (now words) ≡ 15 ⌝ }
+    ensures count { λ r. ⌜ r ≡ onesOf (now (words .entry)) 15 ⌝ }
+    ensures small { λ r. ⌜ r ≤ 960 ⌝ }
+{
+    let mut sum = 0;
+    let mut i = 0;
+    while i < machine::OLDER_WORDS {
+        sum += u64::count_ones(words[i]) as u64;
+        i += 1;
+    }
+    sum
+}
+
+// Misses of every thousand lookups, rounded down.
+pub fn per_thousand(part: u64, whole: u64) -> u64
+    requires { ⌜ (part ≤ 1024) × (0 < whole) ⌝ }
+    ensures { λ r. ⌜ r ≡ perThousand part whole ⌝ }
+{
+    part * 1000 / whole
+}
+
+// Whether no bit is set in the words from the one given on.
+fn clear_from(words: &[u64], from: usize) -> bool
+    requires { ⌜ (length (now words) ≡ 15) × (from ≤ 15) ⌝ }
+    ensures { λ r. ⌜ r ≡ allBelow (λ j. ltb j from || eqb (getD (now (words .entry)) j 0) 0) 15 ⌝ }
+{
+    let mut all = 0;
+    let mut i = from;
+    while i < machine::OLDER_WORDS {
+        all |= words[i];
+        i += 1;
+    }
+    all == 0
+}
+
+// Whether a record has no bit that no lookup kept has.
+pub fn record_sound(seen: u64, newest: u64, older: &[u64]) -> bool
+    requires { ⌜ length (now older) ≡ 15 ⌝ }
+    ensures { λ r. ⌜ r ≡ recordSound seen newest (now (older .entry)) ⌝ }
+{
+    if 1024 < seen {
+        return seen < 1089;
+    }
+    // most records are full or empty; of an empty one the compiler knows the words
+    if seen == 0 {
+        return newest == 0 && clear_from(older, 0);
+    }
+    // the words before the newest one are full
+    let full = (seen - 1) / 64;
+    let bits = (seen - 1) % 64 + 1;
+    if bits < 64 && newest >> bits != 0 {
+        return false;
+    }
+    clear_from(older, full as usize)
+}

@@ -1,0 +1,96 @@
+-- `state::records_sound` meets its contract. The loop has seen the records below i.
+use Prim.Native.Nat.{ℕ, _+_, _-_, _≤_, _<_}
+use mathlib.Core.Path.{_≡_, sym, ap, _∙_}
+use mathlib.Core.Bool.{Bool, true, false, _&&_}
+use mathlib.Core.List.{List}
+use native.Mathlib.Omega.{arith}
+use borrow.Author.Tests.{eq-eqb, eqb-true, eqb-false, not-true, not-false}
+use lib.Dec.{eqb}
+use lib.ListN.{length, getD}
+use Rattle.laws.specs.Tests.{allBelow}
+use Rattle.laws.proofs.Bools.{by-test, clash}
+use Rattle.laws.proofs.Belows.{below-at, below-all}
+use Rattle.machine.specs.Record.{Records, olderOf, recordSound, recordsSound}
+use Rattle.machine.specs.State.{counts, stateIn}
+use Rattle.state.specs.Calls.{Lent}
+use Rattle.state.proofs.Parts.{sized-words}
+use Rattle.state.proofs.Lookups.{seen-at, newest-at, older-long}
+use Rattle.state.proofs.records_sound.Statement.{statement}
+use Rattle.state.proofs.records_sound.Tie as tie
+
+abbrev sound : List ℕ → ℕ → Bool
+sound words r = let x : Records = stateIn words .records in recordSound (getD (x .seen) r 0) (getD (x .newest) r 0) (olderOf (x .older) r)
+
+-- of words of a state's length the records decide
+each-sound : (words : List ℕ) → Lent words → recordsSound (stateIn words .records) ≡ allBelow (sound words) 8
+unfolding recordsSound
+each-sound words l =
+    let z = sized-words counts words l in
+    rw (eq-eqb _ _ (z .seen), eq-eqb _ _ (z .newest), eq-eqb _ _ (z .older))
+
+abbrev Inv-loop : tie.InvT-loop
+Inv-loop state i₀ i = (i ≤ 8) × ((k : ℕ) → k < i → sound state k ≡ true)
+
+abbrev μ-loop : tie.MeasureT-loop
+μ-loop state i₀ i = 8 - i
+
+-- what is told of record i
+told : (c : tie.After-record-sound Inv-loop μ-loop) →
+    let at = c .before .before .before .before .before in
+    sound (at .before .before .args .state .now) (at .loop .i) ≡ c .record-sound .result
+told c =
+    let at = c .before .before .before .before .before in
+    let s = at .before .before in
+    let words = s .args .state .now in
+    let b : at .loop .i < 8 = omega arith in
+    sym (c .record-sound .ensures ∙ rw (c .before .older-of .ensures, seen-at words (s .pre) (at .loop .i) b, newest-at words (s .pre) (at .loop .i) b))
+
+returns : tie.Need-returns Inv-loop μ-loop
+returns c =
+    let t = c .before in
+    let at = t .before .before .before .before .before in
+    let s = at .before .before in
+    let words = s .args .state .now in
+    let b : at .loop .i < 8 = omega arith in
+    sym (each-sound words (s .pre) ∙ by-test (allBelow (sound words) 8)
+    (λ e. clash (below-at (sound words) 8 (at .loop .i) e b) (told t ∙ not-true (t .record-sound .result) (c .if1 .taken)))
+    (λ e. e))
+
+loop-again : tie.Need-loop-again Inv-loop μ-loop
+loop-again c =
+    let t = c .before in
+    let at = t .before .before .before .before .before in (
+      omega arith,
+      λ k b. by-test (eqb k (at .loop .i))
+          (λ e. rw (eqb-true k (at .loop .i) e) (told t ∙ not-false (t .record-sound .result) (c .if1 .left)))
+          (λ e. at .loop .inv .1 k (omega (arith, eqb-false k (at .loop .i) e))),
+    )
+
+returns-2 : tie.Need-returns-2 Inv-loop μ-loop
+returns-2 c =
+    let at = c .before in
+    let s = at .before .before in
+    sym (each-sound (s .args .state .now) (s .pre) ∙ below-all _ 8 (λ k b. at .loop .inv .1 k (omega arith)))
+
+pub records-sound-spec : {M : Type 1} → statement M
+records-sound-spec =
+    tie.close
+    (tie.spec
+    Inv-loop
+    μ-loop
+    (λ c. (omega arith, λ k b. absurd (omega arith)))
+    (λ c. omega arith)
+    (λ c. omega arith)
+    (λ c. let s = c .before .before .before .before in omega (arith, s .pre))
+    (λ c. omega arith)
+    (λ c. omega arith)
+    (λ c. let s = c .before .before .before .before .before in omega (arith, s .pre))
+    (λ c κs. let s = c .before .before .before .before .before in (s .pre, omega arith))
+    (λ c κs.
+    let s = c .before .before .before .before .before .before in
+    ap length (c .older-of .ensures) ∙ older-long (s .args .state .now) (s .pre) (c .before .before .before .before .loop .i) (omega arith))
+    returns
+    (λ c. omega arith)
+    (λ c. omega arith)
+    loop-again
+    returns-2)
