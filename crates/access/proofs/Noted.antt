@@ -1,19 +1,19 @@
 -- A lookup that is noted before its outcome is known, and told if it was a miss, comes to one that is noted behind it. Assumes nothing.
-use Prim.Native.Nat.{ℕ, _+_, _%_, _≤_, _<_}
-use mathlib.Core.Path.{_≡_, refl, ap, sym, _∙_}
+use Prim.Native.Nat.{ℕ, _%_, _<_}
+use mathlib.Core.Path.{_≡_, ap, _∙_}
 use mathlib.Core.Bool.{true, false, cond}
 use mathlib.Core.List.{List}
 use native.Mathlib.Omega.{arith}
 use native.Mathlib.Nat.{add-zero}
 use lib.Dec.{eqb}
-use lib.ListN.{length, getD, set, length-set}
+use lib.ListN.{length, getD, length-set}
 use lib.Seq.{getD-set-same, set-set}
 use Rattle.laws.specs.declared.Found.{Found}
 use Rattle.laws.specs.declared.Found.the-variants.{At}
 use Rattle.machine.specs.Slots.{noSlot, keyAddress, search, PageMatch, within, Looked, hit, miss, matchedAt, lookedAt, lookup}
 use Rattle.machine.specs.Record.{Records, recordOf, turned, pushed, put, noted}
 use Rattle.machine.specs.State.{counts, State, stateIn, sideOf, withRecords, encode, sound}
-use Rattle.machine.specs.Access.{lookupKey, missTrap, trapTag, trapRegisters, settleLooked, missed, outcomeNoted}
+use Rattle.machine.specs.Access.{lookupKey, missTrap, trapTag, settleLooked, missed, outcomeNoted}
 use Rattle.machine.specs.declared.Slot.{Slot}
 use Rattle.machine.specs.declared.Reach.{Reach}
 use Rattle.machine.specs.declared.Key.{Key}

@@ -1,4 +1,5 @@
--- How a state of the unit and a ledger with its places stand to each other: the same registers, on each side the same entries, each in its place, and the same lookups.
+-- How a state of the unit and a ledger with its places stand to each other: the same registers, the same lookups, on each side the same entries, and each in
+-- its place.
 -- Assumes nothing.
 use Prim.Native.Nat.{ℕ, _<_}
 use mathlib.Core.Path.{_≡_}

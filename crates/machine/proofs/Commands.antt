@@ -14,7 +14,7 @@ use Rattle.laws.proofs.Bools.{by-test, clash, and-left, and-right, and-both, or
 use Rattle.laws.proofs.Counts.{none-count}
 use Rattle.laws.proofs.Walks.{found-none}
 use Rattle.laws.proofs.Finds.{stands-count, how-many, none-passes, FindSays, find-says, find-only, find-zero}
-use Rattle.machine.specs.Slots.{noSlot, isLive, answersTo, lookup, isReal, setUsed}
+use Rattle.machine.specs.Slots.{noSlot, isLive, answersTo, isReal, setUsed}
 use Rattle.machine.specs.Pages.{inRange}
 use Rattle.machine.specs.Words.{wordSound}
 use Rattle.machine.specs.Insertion.{removes, candidate, placed, inserted, hasSlot}

@@ -20,7 +20,8 @@ pub printed-run : PrintedRun
 unfolding PrintedRun given printed allBelow count anyOf allOf pairwise firstFrom inRange listed pageShift wordSound
     wordInsertable frame physicalBy slotsOf wordsOf pageMatch isCompared answersTo lookup overlaps removes entryOf wants choice inserted placed
     hasSlot ownerSound pageSound liveSound emptySound slotSound sideSound known writable baseAllowed
-    configurationAllowed allowed registersSound resetStrands turned pushed put recordSound recordsSound stateOf encode reset sideFits sound wordsSound asked askedInsertion
+    configurationAllowed allowed registersSound resetStrands turned pushed put recordSound recordsSound stateOf encode reset sideFits
+    sound wordsSound asked askedInsertion
     ask verdict prepare faultType judge trapRegisters tsbOffset tsbPointer act step eight widthOf commandAt decodeAt
     answerBytes takes after answersBytes finish runOf
 printed-run = (refl, refl, refl, refl)

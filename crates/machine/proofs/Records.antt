@@ -3,20 +3,20 @@
 use Prim.Native.Nat.{ℕ, zero, suc, _+_, _*_, _-_, _/_, _%_, _≤_, _<_}
 use mathlib.Core.Path.{_≡_, refl, ap, sym, _∙_}
 use mathlib.Core.Bool.{Bool, true, false, not, cond, _&&_}
-use mathlib.Core.List.{List, [], _∷_, _++_}
+use mathlib.Core.List.{List, _∷_, _++_}
 use native.Mathlib.Omega.{arith}
 use native.Mathlib.Nat.{mul-comm}
 use lib.Dec.{eqb, leb, ltb}
-use lib.ListN.{length, getD, set, take, drop, replicate, length-set, length-append, length-drop, List·getD-append}
+use lib.ListN.{length, getD, set, take, drop, length-set, length-append, length-drop, List·getD-append}
 use lib.Seq.{ext-getD, length-take-le, getD-take, getD-drop, getD-append-add, getD-set-same, getD-set-other, set-set}
 use borrow.Author.Tests.{eqb-true, eqb-false, eq-eqb, le-leb, ltb-true, ltb-false}
-use Rattle.laws.specs.Tests.{tick, allBelow}
-use Rattle.laws.proofs.Bools.{by-test, clash, and-both, and-left, and-right}
+use Rattle.laws.specs.Tests.{tick}
+use Rattle.laws.proofs.Bools.{by-test, and-both, and-left, and-right}
 use Rattle.laws.proofs.Belows.{below-all, below-at}
 use Rattle.machine.specs.Record.{Records, recordOf, olderOf, withOlder, turned, pushed, put, noted, perThousand, missRate, recordSound, recordsSound}
 use Rattle.machine.specs.Questions.{hasLookups}
 use Rattle.machine.specs.Ledger.{thousandths}
-use Rattle.machine.specs.Places.{row, seenWord, newestWord, olderWord, seenWords, newestWords, olderWords}
+use Rattle.machine.specs.Places.{row, seenWord, newestWord, olderWord, olderWords}
 use Rattle.machine.proofs.Record.{row-length, row-at, seen-more, seen-turned, newest-more, older-same, newest-turned, older-first, older-next}
 use Rattle.machine.proofs.Record.{record-kept, record-misses, record-good, listFor, record-back}
 use Rattle.machine.proofs.Alike.{RecordsAlike}
@@ -142,7 +142,8 @@ module _ {x : Records} {m : ℕ → ℕ → List Bool} (h : RecordsAlike x m) (s
 
     turned-older : eqb (seenWord l % 64) 0 ≡ true → withOlder (olderWords m) r (newestWord l ∷ take 14 (row (olderWord l) 15)) ≡ olderWords more
     turned-older e =
-        row-replaced _ _ 120 (r * 15) 15 (newestWord l ∷ take 14 (row (olderWord l) 15)) (omega arith) (ap suc (length-take-le 14 (row (olderWord l) 15) (omega (arith, row-length (olderWord l) 15))))
+        row-replaced _ _ 120 (r * 15) 15 (newestWord l ∷ take 14 (row (olderWord l) 15)) (omega arith)
+        (ap suc (length-take-le 14 (row (olderWord l) 15) (omega (arith, row-length (olderWord l) 15))))
         (λ j c.
         let (q, i) = in-record j c in
         rw (q, i, more-here) (moved j c))

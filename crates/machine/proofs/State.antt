@@ -1,4 +1,4 @@
--- Laws of the state: the register file, the words that hold a state, and soundness, which every command keeps. Over any number of slots.
+-- Laws of the state: the register file, the words that hold a state, and soundness, taken apart. Over any number of slots.
 -- Assumes nothing.
 use Prim.Native.Nat.{ℕ, _+_, _*_, _%_, _^_, _≤_, _<_}
 use mathlib.Core.Path.{_≡_, refl, ap, sym, _∙_}
@@ -9,50 +9,31 @@ use lib.Dec.{eqb, ltb}
 use lib.ListN.{length, getD, set, take, drop, replicate, length-set, length-append, length-drop, length-replicate, take-append-drop}
 use lib.Seq.{take-at, drop-at, drop-drop, length-take-le, getD-set-same, getD-set-other}
 use borrow.Author.Tests.{eq-eqb, eqb-true, eqb-false, lt-ltb, le-ltb, ltb-true}
-use Rattle.laws.specs.Tests.{allBelow, allOf, first}
-use Rattle.laws.specs.declared.Found.the-variants.{At}
+use Rattle.laws.specs.Tests.{allBelow, allOf}
 use Rattle.laws.proofs.Bools.{by-test, clash, and-both, and-left, and-right}
 use Rattle.laws.proofs.Belows.{below-at, below-change}
-use Rattle.laws.proofs.Walks.{found-at}
 use Rattle.machine.specs.Pages.{inRange, listed}
-use Rattle.machine.specs.Words.{bits, wordInsertable, reachOf}
-use Rattle.machine.specs.Slots.{slotsOf, wordsOf, noSlot, isLive, keyAddress, answersTo, lookup, setUsed}
-use Rattle.machine.specs.Insertion.{removes, candidate, hasSlot}
+use Rattle.machine.specs.Words.{bits, wordInsertable}
+use Rattle.machine.specs.Slots.{slotsOf, wordsOf, noSlot, keyAddress}
+use Rattle.machine.specs.Insertion.{candidate, hasSlot}
 use Rattle.machine.specs.Sound.{slotSound, sideSound}
 use Rattle.machine.specs.Registers.{registerWords, cell, register, withRegister, partition, mode, addressMask}
 use Rattle.machine.specs.Registers.{selected, tagAccess, tagAddress, tagContext, known, writable, baseAllowed}
 use Rattle.machine.specs.Registers.{configurationAllowed, allowed, registersSound, resetStrands}
 use Rattle.machine.specs.Record.{Records, recordCount, olderStart, recordSound, recordsSound}
-use Rattle.machine.specs.State.{slotCount, Counts, State, sideOf, withSide, withRegisters, recordStart, stateWords, stateOf}
+use Rattle.machine.specs.State.{slotCount, Counts, State, sideOf, recordStart, stateWords, stateOf}
 use Rattle.machine.specs.State.{encode, reset, sideFits, sound, wordsSound}
 use Rattle.machine.specs.Questions.{Question, kindSide, flagReal, flagLocked, keyOf, insertion, askedInsertion, asked, ask, verdict}
-use Rattle.machine.specs.Access.{judge, prepare, trapTag, trapRegisters, accessOf, translatedBy, settleJudged, settleLooked, settle}
 use Rattle.machine.specs.declared.VirtualAddress.{VirtualAddress}
-use Rattle.machine.specs.declared.Access.{Access}
-use Rattle.machine.specs.declared.Reach.{Reach}
-use Rattle.machine.specs.declared.Translation.{Translation}
-use Rattle.machine.specs.declared.Tag.{Tag}
-use Rattle.machine.specs.declared.Tag.the-variants as effect
-use Rattle.machine.specs.declared.Prepared.{Prepared}
-use Rattle.machine.specs.declared.Prepared.the-variants as prepared
-use Rattle.machine.specs.declared.Judged.{Judged}
-use Rattle.machine.specs.declared.Judged.the-variants as judged
-use Rattle.machine.specs.Step.{demap, act, stepBy, step, insertStep}
+use Rattle.machine.specs.Step.{act, insertStep}
 use Rattle.machine.specs.declared.Slot.{Slot}
-use Rattle.machine.specs.declared.Key.{Key}
-use Rattle.machine.specs.declared.Removal.{Removal}
-use Rattle.machine.specs.declared.Removal.the-variants as removal
-use Rattle.machine.specs.declared.Trap.{Trap}
 use Rattle.machine.specs.declared.Command.{Command}
 use Rattle.machine.specs.declared.Command.the-variants as command
-use Rattle.machine.specs.declared.Verdict.{Verdict}
 use Rattle.machine.specs.declared.Verdict.the-variants.{Passed, Refused}
 use Rattle.machine.proofs.Words.{insertable-sound}
 use Rattle.machine.proofs.Slots.{words-back, slots-back, words-length}
-use Rattle.machine.proofs.Insertion.{length-removed, length-inserted, no-slot}
-use Rattle.machine.proofs.Used.{SameSlots, hit-slots}
-use Rattle.machine.proofs.Matches.{looked-by}
-use Rattle.machine.proofs.Sound.{entry-sound, answers-live, empty-sound, sound-removed, sound-set-used, sound-inserted}
+use Rattle.machine.proofs.Insertion.{no-slot}
+use Rattle.machine.proofs.Sound.{entry-sound, empty-sound}
 
 ruleset conj = (and-left, and-right, eqb-true, ltb-true)
 

@@ -182,7 +182,7 @@ settleLooked u a (hit i r) =
     let word : ℕ = getD s i noSlot .word in
     settleJudged (withSide u (a .side) (setUsed i s)) a (translatedBy word r) (judge (u .registers) a word)
 
--- document 02, U5: a lookup that finds an entry is no miss, whatever comes of it
+-- document 02, U5: with an entry found it is no miss, whatever the word then says
 abbrev pub missed : Looked → ℕ
 missed miss = 1
 missed (hit i r) = 0

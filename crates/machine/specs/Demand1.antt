@@ -19,9 +19,9 @@ pub record Demand1 : Type 0 where
   -- number 1: words that are not sound stay as they are, and so does every byte of the output
   pub unsound : (n : Counts) (words : List ℕ) (input output : Bytes) → (GoodWords (slotCount n) words → ⊥)
       → runOf n words input output ≡ record { words = words; output = output; answered = 0; taken = 0; stop = 1 }
-  -- 5 to 13: a command that is answered by a refusal leaves registers, entries and used bits, in whatever state
+  -- 5 to 13 and 15: a command that is answered by a refusal leaves registers, entries, used bits and miss records, in whatever state
   pub refused : (u : State) (c : Command) → getD (unitBytes u c) 0 0 ≡ 5 → step u c .state ≡ u
-  -- and 5 to 12 it gets from the ledger's registers, in every sound state
+  -- and 5 to 12 and 15 it gets from the ledger's registers and lookups, in every sound state
   pub numbered : (n : Counts) (k : Reference) → ReferenceGood (slotCount n) k → (c : Command) → (firstNo (questions (k .ledger) c) ≡ 0 → ⊥)
       → unitBytes (stateOf n (referenceWords k)) c ≡ line 5 (firstNo (questions (k .ledger) c)) 0 0 0 0
   -- no byte past the answers is written, whatever is passed

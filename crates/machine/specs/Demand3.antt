@@ -63,7 +63,7 @@ pub record AccessSays (l : Ledger) (a : Asked) (b : Bytes) : Type 0 where
   pub hit : (e : Entry) → Live e (l .entries (askedSide a)) → foundBy l a e ≡ true → b ≡ hits l a e .bytes
   pub missed : (b ≡ misses l a .bytes) ↔ (howMany (foundBy l a) (l .entries (askedSide a)) ≡ 0)
 
--- of a command that none of 5 to 12 refused
+-- of a command that none of 5 to 12 and 15 refused
 abbrev pub SaysOf : Counts → Reference → View → Bytes → Type 0
 SaysOf n k (insertion strand side flags word) b =
     InsertionSays (slotCount n side) (k .places side) (k .ledger .entries side) (newEntry (k .ledger) strand side flags word) b

@@ -40,6 +40,7 @@ pub record ReferenceGood (n : ℕ → ℕ) (k : Reference) : Type 0 where
   pub sides : (side : ℕ) → side < 2 → SideGood (n side) (k .places side)
   pub listed : (side : ℕ) → side < 2 → (p : Entry → Bool) → howMany p (k .ledger .entries side) ≡ howMany p (entriesIn (k .places side))
 
--- that empty slots are zero, and that the words of a live one hold its entry, its used bit and nothing more, is said by `referenceWords`
+-- that empty slots are zero, that the words of a live one hold its entry, its used bit and nothing more, and that a miss record has no bit but those of its
+-- lookups (document 02, U5), is said by `referenceWords`: any list of lookups will do
 abbrev pub GoodWords : (ℕ → ℕ) → List ℕ → Type 0
 GoodWords n words = (k : Reference) × ReferenceGood n k × (words ≡ referenceWords k)

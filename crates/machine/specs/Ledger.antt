@@ -20,8 +20,8 @@ pub record Entry : Type 0 where
   pub locked : Bool
   pub word : ℕ
 
--- registers by strand and number; entries by side, the newest last; lookups by strand and side, the newest first, each with whether it missed. No lookup since
--- reset is ever struck (document 02, U5)
+-- registers by strand and number; entries by side, the newest last; lookups by strand and side, the newest first, each with whether it missed. All since
+-- reset stay (document 02, U5)
 pub record Ledger : Type 0 where
   pub registers : ℕ → ℕ → ℕ
   pub entries : ℕ → List Entry
@@ -156,7 +156,7 @@ isNamed d e =
     eqb (d .partition) (e .partition)
     && (eqb (d .real) (oneIf (e .real)) && (eqb (d .place) (e .page + e .context) && eqb (d .word) (e .word)))
 
--- ---- questions 5 to 13, by the registers and lists of the ledger
+-- ---- questions 5 to 13 and 15, by the registers and lists of the ledger
 -- the entry of an insertion: by the strand's partition and tag access; the word's size code says where the page starts
 unfoldable pub newEntry : Ledger → ℕ → ℕ → ℕ → ℕ → Entry
 newEntry l strand side flags word =

@@ -91,7 +91,7 @@ each k side f = withPlaces (k .places) side (map f (k .places side))
 abbrev pub accessed : Reference → Asked → ℕ → List Place
 accessed k a = cond (looksUp (k .ledger) a) (each k (askedSide a) (usedWhere (foundBy (k .ledger) a))) (k .places)
 
--- of a command that none of 5 to 12 refused: what the ledger strikes leaves an empty place; n is the slot count of each side
+-- of a command that none of 5 to 12 and 15 refused: what the ledger strikes leaves an empty place; n is the slot count of each side
 unfoldable pub moved : (ℕ → ℕ) → Reference → Command → ℕ → List Place
 moved n k (command.Write strand number value) = k .places
 moved n k (command.Insert strand side flags word) =
@@ -184,8 +184,8 @@ newestWords lookups = row (λ r. newestWord (lookups (r / 2) (r % 2))) 8
 abbrev pub olderWords : (ℕ → ℕ → List Bool) → List ℕ
 olderWords lookups = row (λ i. olderWord (lookups (i / 15 / 2) (i / 15 % 2)) (i % 15)) 120
 
--- 32 cells for each of the four strands, a register in the cell of its number; then side 0 and side 1; then the lookups: their numbers, the newest words, the older
--- ones
+-- 32 cells for each of the four strands, a register in the cell of its number; then side 0 and side 1; then the lookups: their numbers, the newest
+-- words, the older ones
 unfoldable pub referenceWords : Reference → List ℕ
 referenceWords k =
     row (λ i. k .ledger .registers (i / 32) (i % 32)) 128

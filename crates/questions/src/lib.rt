@@ -1,4 +1,4 @@
-// Questions 5 to 13, asked on the state as it is before a command acts: document 01, "Questions before a command acts".
+// Questions 5 to 13 and 15, asked on the state as it is before a command acts: document 01, "Questions before a command acts".
 ghost use mathlib.Core.Path.{_≡_};
 ghost use Prim.Native.Nat.{_<_};
 ghost use Rattle.machine.specs.State.{stateIn};

@@ -1,13 +1,13 @@
 -- The miss records in lent words: read, turned, put and told a miss. Assumes nothing.
-use Prim.Native.Nat.{ℕ, suc, _+_, _*_, _-_, _%_, _^_, _≤_, _<_}
-use mathlib.Core.Path.{_≡_, refl, ap, sym, _∙_}
+use Prim.Native.Nat.{ℕ, suc, _+_, _*_, _-_, _%_, _≤_, _<_}
+use mathlib.Core.Path.{_≡_, ap, sym, _∙_}
 use mathlib.Core.Bool.{true, false}
-use mathlib.Core.List.{List, _∷_, _++_}
+use mathlib.Core.List.{List, _∷_}
 use native.Mathlib.Omega.{arith}
 use lib.Dec.{eqb, ltb}
 use borrow.Author.Tests.{eq-eqb, ne-eqb, ltb-true, lt-ltb, le-ltb}
 use lib.ListN.{length, getD, set, take, drop, length-set, length-append, length-drop}
-use lib.Seq.{length-take-le, getD-set-same, getD-set-other, set-getD, set-set}
+use lib.Seq.{length-take-le, getD-set-same, getD-set-other, set-getD}
 use Rattle.laws.proofs.Bools.{by-test, and-left, and-right}
 use Rattle.laws.proofs.Belows.{below-at}
 use Rattle.machine.specs.Record.{Records, olderOf, withOlder, turned, pushed, put, noted, recordSound, recordsSound}
@@ -77,7 +77,8 @@ module _ (words : List ℕ) (l : Lent words) (r : ℕ) (h : r < 8) where
       let n : ℕ = getD words (640 + r) 0 in
       let y : Records = record { seen = set (x .seen) r (n + 1); newest = x .newest; older = x .older } in
       let zy = sized-with-records u y z (length-set (x .seen) r (n + 1) ∙ z .seen) (z .newest) (z .older) in
-      let value : w ≡ pushed (getD (x .newest) r 0) 0 = e ∙ ap (λ i. pushed i 0) (getD-set-other words (640 + r) (648 + r) (n + 1) 0 (λ q. omega arith) ∙ newest-at) in
+      let value : w ≡ pushed (getD (x .newest) r 0) 0 =
+      e ∙ ap (λ i. pushed i 0) (getD-set-other words (640 + r) (648 + r) (n + 1) 0 (λ q. omega arith) ∙ newest-at) in
       ap (λ t. set t (648 + r) w) (ap (λ t. set t (640 + r) (n + 1)) whole ∙ seen-stored counts u z r h (n + 1))
       ∙ ap (λ i. set (encode (withRecords u y)) i w) newest-place ∙ newest-stored counts (withRecords u y) zy r h w
       ∙ rw (value, seen-at)

@@ -14,7 +14,7 @@ use Rattle.laws.proofs.Bools.{by-test}
 use Rattle.machine.specs.Slots.{slotsOf, wordsOf}
 use Rattle.machine.specs.Sound.{sideSound}
 use Rattle.machine.specs.Registers.{registerWords, cell, register, withRegister, registersSound}
-use Rattle.machine.specs.Record.{Records, recordCount, olderStart, olderOf, withOlder, recordsSound}
+use Rattle.machine.specs.Record.{recordCount, olderStart, olderOf, withOlder, recordsSound}
 use Rattle.machine.specs.State.{Counts, State, slotCount, sideOf, withSide, withRegisters, withRecords, recordStart, stateWords, stateOf, encode}
 use Rattle.machine.specs.State.{sideFits, sound, wordsSound}
 use Rattle.machine.specs.declared.Slot.{Slot}
@@ -130,10 +130,12 @@ module _ (n : Counts) (words : List ℕ) (l : length words ≡ stateWords n) whe
         let start : ℕ = recordStart n in
         let back : (c b : ℕ) → c + b * 4 ≤ length words → wordsOf (slotsOf (take (b * 4) (drop c words))) ≡ take (b * 4) (drop c words) =
         λ c b g. words-back (take (b * 4) (drop c words)) (omega (arith, length-take-le (b * 4) (drop c words) (omega (arith, length-drop c words)))) in
-        let records : take recordCount (drop start words) ++ (take recordCount (drop (start + recordCount) words) ++ drop (start + recordCount + recordCount) words)
+        let records : take recordCount (drop start words)
+        ++ (take recordCount (drop (start + recordCount) words) ++ drop (start + recordCount + recordCount) words)
         ≡ drop start words = rw (cut (start + recordCount) recordCount words, cut start recordCount words) in
         by-side
-        (λ e p q. rw (e, p, q, drop-drop m registerWords words, back (registerWords + m) (n .dtlb) (omega arith), records, cut (registerWords + m) (n .dtlb * 4) words))
+        (λ e p q.
+        rw (e, p, q, drop-drop m registerWords words, back (registerWords + m) (n .dtlb) (omega arith), records, cut (registerWords + m) (n .dtlb * 4) words))
         (λ e p q.
         rw (e, p, q, drop-drop (n .dtlb * 4) (registerWords + m) words, back registerWords (n .itlb) (omega arith), records, take-add registerWords m words)
         (append-assoc (take registerWords words) (take m (drop registerWords words)) _))
@@ -175,7 +177,8 @@ module _ (n : Counts) (u : State) (z : Sized n u) where
   tail-drop : (i : ℕ) → drop (recordStart n + i) (encode u) ≡ drop i tail
   unfolding encode
   tail-drop i =
-      ap (λ k. drop k (encode u)) (place i) ∙ drop-past (u .registers) (wordsOf (u .itlb) ++ dtail) registerWords (n .itlb * 4 + (n .dtlb * 4 + i)) (z .registers)
+      ap (λ k. drop k (encode u)) (place i)
+      ∙ drop-past (u .registers) (wordsOf (u .itlb) ++ dtail) registerWords (n .itlb * 4 + (n .dtlb * 4 + i)) (z .registers)
       ∙ drop-past (wordsOf (u .itlb)) dtail (n .itlb * 4) (n .dtlb * 4 + i) itlb-words ∙ drop-past (wordsOf (u .dtlb)) tail (n .dtlb * 4) i dtlb-words
 
   tail-set : (i v : ℕ) → set (encode u) (recordStart n + i) v ≡ withTail (set tail i v)

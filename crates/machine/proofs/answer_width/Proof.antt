@@ -29,7 +29,37 @@ kept = record {
 returns : tie.Need-returns
 returns c = (
   (refl, answer-length),
-  (told, (sold, (readable, (demand1, (demand2, (demand3, (described, (kept, (framed, (searches, (lookups, (extent, (decodes, (starred, printed-run)))))))))))))),
+  (
+    told,
+    (
+      sold,
+      (
+        readable,
+        (
+          demand1,
+          (
+            demand2,
+            (
+              demand3,
+              (
+                described,
+                (
+                  kept,
+                  (
+                    framed,
+                    (
+                      searches,
+                      (lookups, (extent, (decodes, (starred, printed-run)))),
+                    ),
+                  ),
+                ),
+              ),
+            ),
+          ),
+        ),
+      ),
+    ),
+  ),
 )
 
 pub answer-width-spec : {M : Type 1} → statement M

@@ -1,7 +1,6 @@
 -- `mmu::act_rate` meets its contract.
 use mathlib.Core.Path.{_≡_}
 use mathlib.Core.Bool.{true}
-use borrow.Author.Needs.{needs}
 use Rattle.laws.specs.Tests.{allOf}
 use Rattle.laws.proofs.Bools.{and-left, and-right}
 use Rattle.machine.specs.Record.{recordOf}

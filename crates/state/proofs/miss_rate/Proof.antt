@@ -1,12 +1,11 @@
 -- `state::miss_rate` meets its contract.
 use Prim.Native.Nat.{ℕ, _+_, _≤_, _<_}
-use mathlib.Core.Path.{_≡_, ap, ap₂, _∙_}
+use mathlib.Core.Path.{ap, ap₂, _∙_}
 use mathlib.Core.List.{List}
 use native.Mathlib.Omega.{arith}
 use borrow.Author.Needs.{needs}
 use borrow.Author.Tests.{eqb-false, not-true}
 use lib.Count.{ones, ones-le}
-use lib.Dec.{eqb}
 use lib.ListN.{length, getD}
 use Rattle.machine.specs.Record.{recordOf, kept, onesOf, perThousand, missRate}
 use Rattle.machine.specs.State.{stateIn}
@@ -25,7 +24,8 @@ few c = ones-le 64 _ (omega (arith, c .shared-slice-known2 .given (648 + c .befo
 some : (c : tie.After-lookups-kept) → 0 < c .lookups-kept .result
 some c =
     let s = c .before .before .before .before .before .before in
-    let none = eqb-false (kept (getD (stateIn (s .args .state .now) .records .seen) (recordOf (s .args .strand) (s .args .side)) 0)) 0 (not-true _ (s .pre .3)) in
+    let n = getD (stateIn (s .args .state .now) .records .seen) (recordOf (s .args .strand) (s .args .side)) 0 in
+    let none = eqb-false (kept n) 0 (not-true _ (s .pre .3)) in
     omega (arith, c .lookups-kept .ensures, none)
 
 count-ones-requires : tie.Need-count-ones-requires
