@@ -33,6 +33,9 @@ pub fn turn(words: &mut [u64], first: u64) -> u64
     word
 }
 
+// The older words but the last: of an even number the compiler counts two at a time.
+const PAIRED: usize = machine::OLDER_WORDS - 1;
+
 // How many bits of the older words are set.
 pub fn count_ones(words: &[u64]) -> u64
     requires { ⌜ length (now words) ≡ 15 ⌝ }
@@ -41,11 +44,11 @@ pub fn count_ones(words: &[u64]) -> u64
 {
     let mut sum = 0;
     let mut i = 0;
-    while i < machine::OLDER_WORDS {
+    while i < PAIRED {
         sum += u64::count_ones(words[i]) as u64;
         i += 1;
     }
-    sum
+    sum + u64::count_ones(words[PAIRED]) as u64
 }
 
 // Misses of every thousand lookups, rounded down.
@@ -56,15 +59,17 @@ pub fn per_thousand(part: u64, whole: u64) -> u64
     part * 1000 / whole
 }
 
-// Whether no bit is set in the words from the one given on.
+// Whether no bit is set in the words from the one given on. All are gone through, as many as the compiler knows: fewer instructions.
 fn clear_from(words: &[u64], from: usize) -> bool
-    requires { ⌜ (length (now words) ≡ 15) × (from ≤ 15) ⌝ }
+    requires { ⌜ length (now words) ≡ 15 ⌝ }
     ensures { λ r. ⌜ r ≡ allBelow (λ j. ltb j from || eqb (getD (now (words .entry)) j 0) 0) 15 ⌝ }
 {
     let mut all = 0;
-    let mut i = from;
+    let mut i = 0;
     while i < machine::OLDER_WORDS {
-        all |= words[i];
+        if from <= i {
+            all |= words[i];
+        }
         i += 1;
     }
     all == 0

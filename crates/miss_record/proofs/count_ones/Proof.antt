@@ -1,4 +1,4 @@
--- `miss_record::count_ones` meets its contract. The loop has counted the bits of the words below i.
+-- `miss_record::count_ones` meets its contract. The loop has counted the bits of the words below i; the last word comes behind it.
 use Prim.Native.Nat.{_*_, _-_, _≤_}
 use mathlib.Core.Path.{_≡_}
 use native.Mathlib.Numerals.{add-one}
@@ -10,10 +10,10 @@ use Rattle.miss_record.proofs.count_ones.Statement.{statement}
 use Rattle.miss_record.proofs.count_ones.Tie as tie
 
 abbrev Inv-loop : tie.InvT-loop
-Inv-loop words sum₀ i₀ sum i = (i ≤ 15) × (sum ≤ 64 * i) × (sum ≡ onesOf words i)
+Inv-loop words sum₀ i₀ sum i = (i ≤ 14) × (sum ≤ 64 * i) × (sum ≡ onesOf words i)
 
 abbrev μ-loop : tie.MeasureT-loop
-μ-loop words sum₀ i₀ sum i = 15 - i
+μ-loop words sum₀ i₀ sum i = 14 - i
 
 loop-holds : tie.Need-loop-holds Inv-loop μ-loop
 unfolding onesOf
@@ -29,11 +29,15 @@ loop-again : tie.Need-loop-again Inv-loop μ-loop
 unfolding onesOf
 loop-again c = (omega arith, omega (arith, few c), rw (add-one (c .before .before .loop .i)) (omega (arith, few c)))
 
+last-few : (c : tie.After-shared-slice-known2 Inv-loop μ-loop) → ones (getD (c .before .before .before .args .words .now) 14 0) ≤ 64
+last-few c = ones-le 64 _ (omega (arith, c .shared-slice-known2 .given 14))
+
 returns : tie.Need-returns Inv-loop μ-loop
+unfolding onesOf
 returns c =
-    let l = c .before .loop in
-    let e : l .i ≡ 15 = omega arith in
-    (rw e at (l .inv .2), omega arith)
+    let l = c .before .before .loop in
+    let e : l .i ≡ 14 = omega arith in
+    (rw (rw e at (l .inv .2)), omega (arith, last-few c))
 
 pub count-ones-spec : {M : Type 1} → statement M
 count-ones-spec =
@@ -49,4 +53,7 @@ count-ones-spec =
     (λ c. omega arith)
     (λ c. omega arith)
     loop-again
+    (λ c. omega arith)
+    (λ c. omega (arith, last-few c))
+    (λ c. omega (arith, last-few c))
     returns)
