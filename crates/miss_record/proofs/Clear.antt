@@ -1,14 +1,14 @@
 -- Words without a set bit, and a sound record by them. Assumes nothing.
 use Prim.Native.Nat.{ℕ, _+_, _*_, _-_, _/_, _^_, _≤_, _<_}
-use mathlib.Core.Path.{_≡_, sym, _∙_}
+use mathlib.Core.Path.{_≡_, sym, ap, _∙_}
 use mathlib.Core.Bool.{true, cond, _&&_, _||_, and-true}
 use mathlib.Core.List.{List}
-use native.Mathlib.Nat.{div-eq-of-lt, lt-div-mul-add}
+use native.Mathlib.Nat.{add-comm, div-lt-iff-lt-mul}
 use native.Mathlib.Omega.{arith}
 use lib.Bits.{bitOr, or-add-and, and-le-l, and-le-r}
 use lib.Dec.{eqb, ltb}
 use lib.ListN.{getD}
-use lib.Pow.{pow-pos}
+use lib.Pow.{pow-pos, pow-add}
 use borrow.Author.Tests.{eqb-true, ltb-true, ltb-false, eq-eqb, lt-ltb, le-ltb}
 use Rattle.laws.specs.Tests.{allBelow}
 use Rattle.laws.proofs.Bools.{by-test, both-ways, and-both, and-left, and-right}
@@ -32,14 +32,13 @@ zero-below w =
     (λ e. lt-ltb w 1 (omega (arith, eqb-true w 0 e)))
     (λ e. eq-eqb w 0 (omega (arith, ltb-true w 1 e)))
 
--- a word has no bit from k on where a shift by k leaves nothing
-pub shift-zero : (w k : ℕ) → eqb (w / 2 ^ k) 0 ≡ ltb w (2 ^ k)
-shift-zero w k =
-    both-ways (eqb (w / 2 ^ k) 0) (ltb w (2 ^ k))
-    (λ e.
-    let b : w < w / 2 ^ k * 2 ^ k + 2 ^ k = lt-div-mul-add (pow-pos k) in
-    lt-ltb w (2 ^ k) (omega (arith, rw (eqb-true (w / 2 ^ k) 0 e) at b)))
-    (λ e. eq-eqb (w / 2 ^ k) 0 (div-eq-of-lt (ltb-true w (2 ^ k) e)))
+-- a word has no bit past bit k where a shift by k leaves that bit alone
+pub shift-low : (w k : ℕ) → ltb (w / 2 ^ k) 2 ≡ ltb w (2 ^ (k + 1))
+shift-low w k =
+    let e : 2 * 2 ^ k ≡ 2 ^ (k + 1) = sym (pow-add 2 1 k) ∙ ap (λ i. 2 ^ i) (add-comm 1 k) in
+    both-ways (ltb (w / 2 ^ k) 2) (ltb w (2 ^ (k + 1)))
+    (λ h. lt-ltb w (2 ^ (k + 1)) (rw e at (div-lt-iff-lt-mul {y = 2} (pow-pos k) .0 (ltb-true (w / 2 ^ k) 2 h))))
+    (λ h. lt-ltb (w / 2 ^ k) 2 (div-lt-iff-lt-mul {y = 2} (pow-pos k) .1 (rw (sym e) at (ltb-true w (2 ^ (k + 1)) h))))
 
 module _ (n word : ℕ) (old : List ℕ) (fit : (j : ℕ) → getD old j 0 < 2 ^ 64) where
   -- of more than 1,024 lookups every bit may be set

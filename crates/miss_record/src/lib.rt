@@ -59,7 +59,7 @@ pub fn per_thousand(part: u64, whole: u64) -> u64
     part * 1000 / whole
 }
 
-// Whether no bit is set in the words from the one given on. All are gone through, as many as the compiler knows: fewer instructions.
+// Whether no bit is set in the words from the one given on. All are gone through, which the compiler unrolls: fewer instructions.
 fn clear_from(words: &[u64], from: usize) -> bool
     requires { ⌜ length (now words) ≡ 15 ⌝ }
     ensures { λ r. ⌜ r ≡ allBelow (λ j. ltb j from || eqb (getD (now (words .entry)) j 0) 0) 15 ⌝ }
@@ -87,11 +87,7 @@ pub fn record_sound(seen: u64, newest: u64, older: &[u64]) -> bool
     if seen == 0 {
         return newest == 0 && clear_from(older, 0);
     }
-    // the words before the newest one are full
+    // so many older words are full, and no bit of the newest one is set past that of its first outcome
     let full = (seen - 1) / 64;
-    let bits = (seen - 1) % 64 + 1;
-    if bits < 64 && newest >> bits != 0 {
-        return false;
-    }
-    clear_from(older, full as usize)
+    newest >> ((seen - 1) % 64) < 2 && clear_from(older, full as usize)
 }

@@ -1,16 +1,15 @@
 -- `miss_record::record_sound` meets its contract.
 use Prim.Native.Nat.{ℕ, _+_, _-_, _/_, _%_, _^_, _<_}
-use mathlib.Core.Bool.{true, _&&_, _||_}
-use mathlib.Core.Logic.{⊎-elim}
+use mathlib.Core.Bool.{_&&_, _||_}
 use mathlib.Core.Path.{_≡_, refl, sym, _∙_}
 use native.Mathlib.Omega.{arith}
 use borrow.Author.Needs.{needs}
-use borrow.Author.Tests.{eq-eqb, ne-eqb, lt-ltb, not-true, not-false}
+use borrow.Author.Tests.{eq-eqb, ne-eqb, lt-ltb, le-ltb}
 use lib.Dec.{eqb, ltb}
 use lib.ListN.{getD}
 use Rattle.laws.specs.Tests.{allBelow}
 use Rattle.machine.specs.Record.{recordSound}
-use Rattle.miss_record.proofs.Clear.{zero-below, shift-zero, record-long, record-short}
+use Rattle.miss_record.proofs.Clear.{zero-below, shift-low, record-long, record-short}
 use Rattle.miss_record.proofs.record_sound.Statement.{statement}
 use Rattle.miss_record.proofs.record_sound.Tie as tie
 
@@ -37,34 +36,21 @@ returns-2 c = let at = c .before in c .clear-from .ensures ∙ sym (empty (at .b
 returns-3 : tie.Need-returns-3
 returns-3 c = let z = ne-eqb _ 0 (c .if3 .left) in z ∙ sym (empty (c .before) ∙ rw z)
 
--- the outcomes in the newest word of any other
-abbrev inNewest : tie.Else2 → ℕ
-inNewest c = (c .before .before .before .args .seen - 1) % 64 + 1
-
--- the words before that one are in use
+-- of any other the words before the newest one are
 some : (c : tie.Else2) →
     let a = c .before .before .before .args in
     recordSound (a .seen) (a .newest) (a .older .now)
-    ≡ (ltb (a .newest) (2 ^ inNewest c) && allBelow (λ j. ltb j ((a .seen - 1) / 64) || eqb (getD (a .older .now) j 0) 0) 15)
+    ≡ (ltb (a .newest / 2 ^ ((a .seen - 1) % 64)) 2 && allBelow (λ j. ltb j ((a .seen - 1) / 64) || eqb (getD (a .older .now) j 0) 0) 15)
 some c =
     let a = c .before .before .before .args in
-    record-short (a .seen) (a .newest) (a .older .now) (fit (c .before .before)) _ (omega arith) refl (inNewest c) (omega arith)
+    record-short (a .seen) (a .newest) (a .older .now) (fit (c .before .before)) _ (omega arith) refl ((a .seen - 1) % 64 + 1) (omega arith)
+    ∙ rw (shift-low (a .newest) ((a .seen - 1) % 64))
 
 returns-4 : tie.Need-returns-4
-returns-4 c =
-    let at = c .before .before in
-    sym (some at ∙ rw (sym (shift-zero _ (inNewest at)) ∙ not-true _ (c .if5 .taken)))
+returns-4 c = let at = c .before in c .clear-from2 .ensures ∙ sym (some (at .before) ∙ rw (lt-ltb _ 2 (at .if4 .taken)))
 
 returns-5 : tie.Need-returns-5
-returns-5 c =
-    let at = c .before .before in
-    let word = at .before .before .before .args .newest in
-    let low : ltb word (2 ^ inNewest at) ≡ true =
-    ⊎-elim
-    (λ w. sym (shift-zero word (inNewest at)) ∙ not-false _ (w .1 .left))
-    (λ w. let e : inNewest at ≡ 64 = omega (arith, w .left) in rw e (lt-ltb word (2 ^ 64) (omega arith)))
-    (c .before .if4 .came) in
-    c .clear-from2 .ensures ∙ sym (some at ∙ rw low)
+returns-5 c = let z = le-ltb _ 2 (c .if4 .left) in z ∙ sym (some (c .before) ∙ rw z)
 
 pub record-sound-spec : {M : Type 1} → statement M
 record-sound-spec =
@@ -77,7 +63,6 @@ record-sound-spec =
     (λ c. search needs)
     (λ c. search needs)
     (λ c. search needs)
-    (λ c. search needs)
-    returns-4
     (λ c κs. search needs)
+    returns-4
     returns-5)
