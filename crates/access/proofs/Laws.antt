@@ -11,12 +11,12 @@ use Rattle.machine.specs.declared.Access.{Access}
 use Rattle.machine.specs.declared.Tag.{Tag}
 use Rattle.machine.specs.declared.Tag.the-variants.{Kept, Written}
 use Rattle.machine.specs.declared.Trap.{Trap}
-use Rattle.machine.proofs.State.{Sized}
-use Rattle.state.proofs.Parts.{sized-with-registers, sized-back}
+use Rattle.machine.proofs.State.{Sized, state-encode}
+use Rattle.state.proofs.Parts.{sized-with-registers}
 
 -- words that hold a state of the right size give it back
 pub left-back : {u : State} {left : List ℕ} → Sized counts u → left ≡ encode u → stateIn left ≡ u
-left-back {u} z e = rw e (sized-back counts u z)
+left-back {u} z e = rw e (state-encode counts u z)
 
 module _ (u : State) (z : Sized counts u) (file : List ℕ) (l : length file ≡ registerWords) {left : List ℕ} (e : left ≡ encode (withRegisters u file)) where
   pub registers-back : stateIn left ≡ withRegisters u file

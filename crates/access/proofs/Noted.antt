@@ -20,10 +20,10 @@ use Rattle.machine.specs.declared.Key.{Key}
 use Rattle.machine.specs.declared.Access.{Access}
 use Rattle.machine.specs.declared.Answer.{Answer}
 use Rattle.machine.proofs.Matches.{match-within, found-holds}
-use Rattle.machine.proofs.State.{Sized, sound-sized, encode-length}
+use Rattle.machine.proofs.State.{Sized, sound-sized, encode-length, state-encode}
 use Rattle.machine.proofs.Lookups.{looked-records, looked-with, noted-sound}
 use Rattle.state.specs.Calls.{Lent, SoundIn, onRecords, missNoted, Did}
-use Rattle.state.proofs.Parts.{sized-with-registers, sized-back}
+use Rattle.state.proofs.Parts.{sized-with-registers}
 use Rattle.access.specs.Fits.{AccessFits}
 use Rattle.access.proofs.Laws.{trap-length}
 
@@ -63,7 +63,7 @@ module _ (words : List ℕ) (h : SoundIn words) (a : Access) (f : AccessFits a) 
 
   -- the state noted
   pub noted-back : stateIn left ≡ withRecords u x
-  noted-back = rw e (sized-back counts (withRecords u x) z)
+  noted-back = rw e (state-encode counts (withRecords u x) z)
 
   pub noted-lent : Lent left
   noted-lent = ap length e ∙ encode-length counts (withRecords u x) z
@@ -104,7 +104,7 @@ module _ (words : List ℕ) (h : SoundIn words) (a : Access) (f : AccessFits a) 
     missed-words = rw noted-back at (d .words)
 
     missed-back : stateIn last ≡ v
-    missed-back = rw missed-words (sized-back counts v zv)
+    missed-back = rw missed-words (state-encode counts v zv)
 
     pub missed-lent : Lent last
     missed-lent = ap length missed-words ∙ encode-length counts v zv

@@ -72,8 +72,8 @@ outcome miss = (true, refl)
 outcome (hit i r) = (false, refl)
 
 module _ (n : Counts) (u : State) (h : sound n u ≡ true) (strand side : ℕ) (s : strand < 4) (d : side < 2) where
-  same : SameRecord strand side u u
-  same = record { seen = refl; newest = refl; older = refl }
+  kept : {v : State} → v .records ≡ u .records → SameRecord strand side u v
+  kept e = record { seen = rw e; newest = rw e; older = rw e }
 
   -- one is noted for another strand or side
   noted-other : (k e : ℕ) (b : Bool) → k < 4 → e < 2 → (eqb strand k && eqb side e) ≡ false
@@ -104,8 +104,8 @@ module _ (n : Counts) (u : State) (h : sound n u ≡ true) (strand side : ℕ) (
 
     settled-record : (p : Prepared) → prepare (u .registers) a ≡ p
         → SameRecord strand side u (settle u a p .state) ⊎ LooksUp u strand side (command.Access k kind selector size address)
-    settled-record (prepared.Stopped t tag) e = inl (record { seen = refl; newest = refl; older = refl })
-    settled-record (prepared.Bypass p) e = inl same
+    settled-record (prepared.Stopped t tag) e = inl (kept refl)
+    settled-record (prepared.Bypass p) e = inl (kept refl)
     settled-record prepared.Lookup e = by-test (eqb strand k && eqb side (kindSide kind))
         (λ t.
         let is : strand ≡ k = eqb-true strand k (and-left _ _ t) in
@@ -115,16 +115,16 @@ module _ (n : Counts) (u : State) (h : sound n u ≡ true) (strand side : ℕ) (
 
   act-record : (c : Command) → verdict u c ≡ Passed → SameRecord strand side u (act u c .state) ⊎ LooksUp u strand side c
   unfolding act
-  act-record (command.Write k number value) v = inl (record { seen = refl; newest = refl; older = refl })
-  act-record (command.Insert k other flags word) v = inl (record { seen = refl; newest = refl; older = refl })
-  act-record (command.DemapPage k other selector flags address) v = inl (record { seen = refl; newest = refl; older = refl })
-  act-record (command.DemapContext k other selector) v = inl (record { seen = refl; newest = refl; older = refl })
-  act-record (command.DemapAll k other) v = inl (record { seen = refl; newest = refl; older = refl })
-  act-record (command.Invalidate other) v = inl (record { seen = refl; newest = refl; older = refl })
+  act-record (command.Write k number value) v = inl (kept refl)
+  act-record (command.Insert k other flags word) v = inl (kept refl)
+  act-record (command.DemapPage k other selector flags address) v = inl (kept refl)
+  act-record (command.DemapContext k other selector) v = inl (kept refl)
+  act-record (command.DemapAll k other) v = inl (kept refl)
+  act-record (command.Invalidate other) v = inl (kept refl)
   act-record (command.Access k kind selector size address) v = settled-record k kind selector size address v _ refl
-  act-record (command.Read k number) v = inl same
-  act-record (command.Pointers k other) v = inl same
-  act-record (command.Rate k other) v = inl same
+  act-record (command.Read k number) v = inl (kept refl)
+  act-record (command.Pointers k other) v = inl (kept refl)
+  act-record (command.Rate k other) v = inl (kept refl)
 
   step-record : (c : Command) → SameRecord strand side u (step u c .state) ⊎ LooksUp u strand side c
   unfolding step
@@ -132,7 +132,7 @@ module _ (n : Counts) (u : State) (h : sound n u ≡ true) (strand side : ℕ) (
     where
       go : (v : Verdict) → verdict u c ≡ v → SameRecord strand side u (stepBy v u c .state) ⊎ LooksUp u strand side c
       go Passed e = act-record c e
-      go (Refused r) e = inl same
+      go (Refused r) e = inl (kept refl)
 
 -- ---- a served miss
 insertion-records : (u : State) (strand side word : ℕ) → insertStep u strand side 0 word .state .records ≡ u .records

@@ -12,9 +12,9 @@ use Rattle.laws.proofs.Bools.{by-test, and-left, and-right}
 use Rattle.laws.proofs.Belows.{below-at}
 use Rattle.machine.specs.Record.{Records, olderOf, withOlder, turned, pushed, put, noted, recordSound, recordsSound}
 use Rattle.machine.specs.State.{counts, State, stateIn, withRecords, encode}
-use Rattle.machine.proofs.State.{Sized, sound-records, encode-length, encode-state}
+use Rattle.machine.proofs.State.{Sized, sound-records, encode-length, state-encode, encode-state}
 use Rattle.state.specs.Calls.{Lent, SoundIn, onRecords, missNoted}
-use Rattle.state.proofs.Parts.{sized-words, sized-back, spliced, seen-read, newest-read, older-read, seen-stored, newest-stored, older-stored}
+use Rattle.state.proofs.Parts.{sized-words, spliced, seen-read, newest-read, older-read, seen-stored, newest-stored, older-stored}
 
 -- a state with other records, as long as they were
 sized-with-records : (u : State) (x : Records) → Sized counts u → length (x .seen) ≡ 8 → length (x .newest) ≡ 8 → length (x .older) ≡ 120
@@ -54,17 +54,11 @@ module _ (words : List ℕ) (l : Lent words) (r : ℕ) (h : r < 8) where
   pub seen-at : getD words (640 + r) 0 ≡ getD (x .seen) r 0
   seen-at = ap (λ w. getD w (640 + r) 0) whole ∙ seen-read counts u z r h
 
-  newest-place : 648 + r ≡ 640 + (8 + r)
-  newest-place = omega arith
-
   pub newest-at : getD words (648 + r) 0 ≡ getD (x .newest) r 0
-  newest-at = ap (λ w. getD w (648 + r) 0) whole ∙ ap (λ i. getD (encode u) i 0) newest-place ∙ newest-read counts u z r h
-
-  older-place : 656 + r * 15 ≡ 640 + (8 + (8 + r * 15))
-  older-place = omega arith
+  newest-at = ap (λ w. getD w (648 + r) 0) whole ∙ newest-read counts u z r h
 
   pub older-at : take 15 (drop (656 + r * 15) words) ≡ olderOf (x .older) r
-  older-at = ap (λ w. take 15 (drop (656 + r * 15) w)) whole ∙ ap (λ i. take 15 (drop i (encode u))) older-place ∙ older-read counts u z r h
+  older-at = ap (λ w. take 15 (drop (656 + r * 15) w)) whole ∙ older-read counts u z r h
 
   pub older-long : length (olderOf (x .older) r) ≡ 15
   older-long = length-take-le 15 (drop (r * 15) (x .older)) (omega (arith, length-drop (r * 15) (x .older), z .older))
@@ -80,70 +74,62 @@ module _ (words : List ℕ) (l : Lent words) (r : ℕ) (h : r < 8) where
       let value : w ≡ pushed (getD (x .newest) r 0) 0 =
       e ∙ ap (λ i. pushed i 0) (getD-set-other words (640 + r) (648 + r) (n + 1) 0 (λ q. omega arith) ∙ newest-at) in
       ap (λ t. set t (648 + r) w) (ap (λ t. set t (640 + r) (n + 1)) whole ∙ seen-stored counts u z r h (n + 1))
-      ∙ ap (λ i. set (encode (withRecords u y)) i w) newest-place ∙ newest-stored counts (withRecords u y) zy r h w
-      ∙ rw (value, seen-at)
+      ∙ newest-stored counts (withRecords u y) zy r h w ∙ rw (value, seen-at)
 
   -- it was a miss
   pub miss-stored : set words (648 + r) (getD words (648 + r) 0 + 1) ≡ onRecords (missNoted r) words
   unfolding missNoted
   miss-stored =
       let w : ℕ = getD words (648 + r) 0 + 1 in
-      ap (λ t. set t (648 + r) w) whole ∙ ap (λ i. set (encode u) i w) newest-place ∙ newest-stored counts u z r h w ∙ rw newest-at
+      ap (λ t. set t (648 + r) w) whole ∙ newest-stored counts u z r h w ∙ rw newest-at
 
-  -- a full newest word makes way: s are the older words then, and v is the word filled anew
-  module _ (s : List ℕ) (k : length s ≡ 15) (v : ℕ) where
-    abbrev y : Records
-    y = record { seen = x .seen; newest = set (x .newest) r v; older = withOlder (x .older) r s }
+  -- a full newest word makes way: the older words then, and the word filled anew
+  abbrev new : List ℕ
+  new = getD (x .newest) r 0 ∷ take 14 (olderOf (x .older) r)
 
-    zy : Sized counts (withRecords u y)
-    zy = sized-with-records u y z (z .seen) (length-set (x .newest) r v ∙ z .newest) (older-length (x .older) s r (z .older) h k)
+  abbrev last : ℕ
+  last = getD (olderOf (x .older) r) 14 0
 
-    moved-stored : set (spliced (656 + r * 15) 15 s words) (648 + r) v ≡ encode (withRecords u y)
-    moved-stored =
-        let o : Records = record { seen = x .seen; newest = x .newest; older = withOlder (x .older) r s } in
-        let zo = sized-with-records u o z (z .seen) (z .newest) (older-length (x .older) s r (z .older) h k) in
-        ap (λ t. set t (648 + r) v) (ap (spliced (656 + r * 15) 15 s) whole ∙ ap (λ i. spliced i 15 s (encode u)) older-place ∙ older-stored counts u z r h s)
-        ∙ ap (λ i. set (encode (withRecords u o)) i v) newest-place ∙ newest-stored counts (withRecords u o) zo r h v
+  abbrev y : Records
+  y = record { seen = x .seen; newest = set (x .newest) r last; older = withOlder (x .older) r new }
 
-    moved-seen : getD (set (spliced (656 + r * 15) 15 s words) (648 + r) v) (640 + r) 0 ≡ getD (x .seen) r 0
-    moved-seen = ap (λ w. getD w (640 + r) 0) moved-stored ∙ seen-read counts (withRecords u y) zy r h
+  new-length : length (withOlder (x .older) r new) ≡ 120
+  new-length = older-length (x .older) new r (z .older) h (ap suc (length-take-le 14 (olderOf (x .older) r) (omega (arith, older-long))))
 
-    counted-stored : (n : ℕ) → set (set (spliced (656 + r * 15) 15 s words) (648 + r) v) (640 + r) n
-        ≡ encode (withRecords u (record { seen = set (x .seen) r n; newest = set (x .newest) r v; older = withOlder (x .older) r s }))
-    counted-stored n = ap (λ t. set t (640 + r) n) moved-stored ∙ seen-stored counts (withRecords u y) zy r h n
+  zy : Sized counts (withRecords u y)
+  zy = sized-with-records u y z (z .seen) (length-set (x .newest) r last ∙ z .newest) new-length
+
+  moved-stored : set (spliced (656 + r * 15) 15 new words) (648 + r) last ≡ encode (withRecords u y)
+  moved-stored =
+      let o : Records = record { seen = x .seen; newest = x .newest; older = withOlder (x .older) r new } in
+      ap (λ t. set t (648 + r) last) (ap (spliced (656 + r * 15) 15 new) whole ∙ older-stored counts u z r h new)
+      ∙ newest-stored counts (withRecords u o) (sized-with-records u o z (z .seen) (z .newest) new-length) r h last
+
+  moved-seen : getD (set (spliced (656 + r * 15) 15 new words) (648 + r) last) (640 + r) 0 ≡ getD (x .seen) r 0
+  moved-seen = ap (λ w. getD w (640 + r) 0) moved-stored ∙ seen-read counts (withRecords u y) zy r h
 
   pub turned-stored : (k : ℕ) (s : List ℕ) (v : ℕ) → k ≡ 15 → s ≡ getD words (648 + r) 0 ∷ take 14 (take k (drop (656 + r * 15) words))
       → v ≡ getD (take k (drop (656 + r * 15) words)) 14 0 → Turned words r (set (spliced (656 + r * 15) k s words) (648 + r) v)
   unfolding turned
   turned-stored k s v e f g =
       rw (g, f, e, newest-at, older-at) (record {
-        long = ap length (moved-stored new size last) ∙ encode-length counts _ (zy new size last);
+        long = ap length moved-stored ∙ encode-length counts _ zy;
         more = λ b.
-            let c : ltb 1024 (getD (x .seen) r 0) ≡ true = lt-ltb 1024 _ (rw (moved-seen new size last) at b) in
-            rw (moved-seen new size last, c) (counted-stored new size last (getD (x .seen) r 0 - 64));
+            let c : ltb 1024 (getD (x .seen) r 0) ≡ true = lt-ltb 1024 _ (rw moved-seen at b) in
+            let n : ℕ = getD (x .seen) r 0 - 64 in
+            rw (moved-seen, c) (ap (λ t. set t (640 + r) n) moved-stored ∙ seen-stored counts (withRecords u y) zy r h n);
         few = λ b.
-            let c : ltb 1024 (getD (x .seen) r 0) ≡ false = le-ltb 1024 _ (rw (moved-seen new size last) at b) in
-            rw (c, set-getD (x .seen) r 0) (moved-stored new size last);
+            let c : ltb 1024 (getD (x .seen) r 0) ≡ false = le-ltb 1024 _ (rw moved-seen at b) in
+            rw (c, set-getD (x .seen) r 0) moved-stored;
       })
-    where
-      last : ℕ
-      last = getD (olderOf (x .older) r) 14 0
-
-      new : List ℕ
-      new = getD (x .newest) r 0 ∷ take 14 (olderOf (x .older) r)
-
-      size : length new ≡ 15
-      size = ap suc (length-take-le 14 (olderOf (x .older) r) (omega (arith, older-long)))
 
   -- ---- both, as a lookup is noted
   turned-sized : Sized counts (withRecords u (turned r x))
   unfolding turned
-  turned-sized = sized-with-records u (turned r x) z (length-set (x .seen) r _ ∙ z .seen) (length-set (x .newest) r _ ∙ z .newest)
-      (older-length (x .older) (getD (x .newest) r 0 ∷ take 14 (olderOf (x .older) r)) r (z .older) h
-      (ap suc (length-take-le 14 (olderOf (x .older) r) (omega (arith, older-long)))))
+  turned-sized = sized-with-records u (turned r x) z (length-set (x .seen) r _ ∙ z .seen) (zy .newest) new-length
 
   turned-back : stateIn (onRecords (turned r) words) ≡ withRecords u (turned r x)
-  turned-back = sized-back counts _ turned-sized
+  turned-back = state-encode counts _ turned-sized
 
   module _ (sound : SoundIn words) where
     pub seen-small : getD (x .seen) r 0 < 1089

@@ -5,21 +5,21 @@ use mathlib.Core.Path.{_≡_, refl, ap, sym, _∙_}
 use mathlib.Core.Bool.{true, false, _&&_}
 use mathlib.Core.List.{List, [], _∷_, _++_, append-assoc}
 use native.Mathlib.Omega.{arith}
-use native.Mathlib.Nat.{zero-add, add-zero, suc-add}
+use native.Mathlib.Nat.{zero-add, suc-add}
 use lib.Dec.{eqb}
-use lib.ListN.{length, getD, set, take, drop, length-set, length-drop, List·getD-append}
-use lib.Seq.{take-add, drop-drop, length-take-le, getD-take, getD-drop, take-set-lt, drop-set-lt, set-append-left, take-append-add, drop-append-add}
+use lib.ListN.{length, getD, set, take, drop, length-set, length-drop, length-append, List·getD-append}
+use lib.Seq.{take-add, drop-drop, length-take-le, getD-take, getD-append-add, take-set-lt, drop-set-lt, set-append-left, take-append-add, drop-append-add}
 use borrow.Author.Tests.{eq-eqb, eqb-true, eqb-false}
 use Rattle.laws.proofs.Bools.{by-test}
 use Rattle.machine.specs.Slots.{slotsOf, wordsOf}
 use Rattle.machine.specs.Sound.{sideSound}
 use Rattle.machine.specs.Registers.{registerWords, cell, register, withRegister, registersSound}
-use Rattle.machine.specs.Record.{recordCount, olderStart, olderOf, withOlder, recordsSound}
+use Rattle.machine.specs.Record.{Records, recordCount, olderStart, olderOf, withOlder, recordsSound}
 use Rattle.machine.specs.State.{Counts, State, slotCount, sideOf, withSide, withRegisters, withRecords, recordStart, stateWords, stateOf, encode}
 use Rattle.machine.specs.State.{sideFits, sound, wordsSound}
 use Rattle.machine.specs.declared.Slot.{Slot}
 use Rattle.machine.proofs.Slots.{slots-length, words-back, words-length}
-use Rattle.machine.proofs.State.{Sized, cut, state-encode, encode-state}
+use Rattle.machine.proofs.State.{Sized, cut, encode-state}
 
 -- ---- a state with as many registers, slots and words of records as it should have
 -- words of the right length hold such a state
@@ -59,24 +59,6 @@ pub register-read : (n : Counts) (words : List ℕ) (strand number : ℕ) → st
     → getD words (cell strand number) 0 ≡ register (stateOf n words .registers) strand number
 unfolding stateOf
 register-read n words strand number s r = sym (getD-take registerWords words (cell strand number) 0 (omega arith))
-
--- a word stored behind the first a
-set-past : (p q : List ℕ) (a i v : ℕ) → length p ≡ a → set (p ++ q) (a + i) v ≡ p ++ set q i v
-set-past [] q a i v h = rw (← h, zero-add)
-set-past (x ∷ p) q a i v h = rw (← h, suc-add) (ap (λ (t : List ℕ). x ∷ t) (set-past p q (length p) i v refl))
-
--- .. read, and replaced
-drop-past : (p q : List ℕ) (a i : ℕ) → length p ≡ a → drop (a + i) (p ++ q) ≡ drop i q
-drop-past p q a i h = rw (← h) (drop-append-add p q i)
-
-drop-first : (i : ℕ) (s : List ℕ) → getD (drop i s) 0 0 ≡ getD s i 0
-drop-first i s = getD-drop i s 0 0 ∙ rw add-zero
-
-abbrev pub spliced : ℕ → ℕ → List ℕ → List ℕ → List ℕ
-spliced a k s words = take a words ++ (s ++ drop k (drop a words))
-
-splice-past : (p q s : List ℕ) (a i k : ℕ) → length p ≡ a → spliced (a + i) k s (p ++ q) ≡ p ++ spliced i k s q
-splice-past p q s a i k h = rw (← h, take-append-add p q i, drop-append-add p q i) (append-assoc p (take i q) (s ++ drop k (drop i q)))
 
 -- where a side's words start
 abbrev pub sideStart : Counts → ℕ → ℕ
@@ -149,89 +131,91 @@ module _ (n : Counts) (words : List ℕ) (l : length words ≡ stateWords n) whe
       let z : Sized n (stateOf n words) = sized-words n words l in
       rw (eq-eqb _ _ l, eq-eqb _ _ (z .itlb), eq-eqb _ _ (z .dtlb))
 
--- ---- the records of a state
+-- ---- the miss records
+-- behind the first a words: read, stored, and k of them replaced
+getD-past : (p q : List ℕ) (a i : ℕ) → length p ≡ a → getD (p ++ q) (a + i) 0 ≡ getD q i 0
+getD-past p q a i h = rw (← h) (getD-append-add p q i 0)
+
+drop-past : (p q : List ℕ) (a i : ℕ) → length p ≡ a → drop (a + i) (p ++ q) ≡ drop i q
+drop-past p q a i h = rw (← h) (drop-append-add p q i)
+
+set-past : (p q : List ℕ) (a i v : ℕ) → length p ≡ a → set (p ++ q) (a + i) v ≡ p ++ set q i v
+set-past [] q a i v h = rw (← h, zero-add)
+set-past (x ∷ p) q a i v h = rw (← h, suc-add) (ap (λ (t : List ℕ). x ∷ t) (set-past p q (length p) i v refl))
+
+abbrev pub spliced : ℕ → ℕ → List ℕ → List ℕ → List ℕ
+spliced a k s words = take a words ++ (s ++ drop k (drop a words))
+
+splice-past : (p q s : List ℕ) (a i k : ℕ) → length p ≡ a → spliced (a + i) k s (p ++ q) ≡ p ++ spliced i k s q
+splice-past p q s a i k h = rw (← h, take-append-add p q i, drop-append-add p q i) (append-assoc p (take i q) (s ++ drop k (drop i q)))
+
 module _ (n : Counts) (u : State) (z : Sized n u) where
-  -- its words hold it
-  pub sized-back : stateOf n (encode u) ≡ u
-  sized-back = state-encode n u z
+  abbrev x : Records
+  x = u .records
 
-  itlb-words : length (wordsOf (u .itlb)) ≡ n .itlb * 4
-  itlb-words = words-length (u .itlb) ∙ omega (arith, z .itlb)
+  -- the words before those of what was seen, before the newest words and before the older ones
+  abbrev front1 : List ℕ
+  front1 = u .registers ++ (wordsOf (u .itlb) ++ wordsOf (u .dtlb))
 
-  dtlb-words : length (wordsOf (u .dtlb)) ≡ n .dtlb * 4
-  dtlb-words = words-length (u .dtlb) ∙ omega (arith, z .dtlb)
+  abbrev front2 : List ℕ
+  front2 = front1 ++ x .seen
 
-  -- the state's words, with others in place of the records'
-  abbrev withTail : List ℕ → List ℕ
-  withTail t = u .registers ++ (wordsOf (u .itlb) ++ (wordsOf (u .dtlb) ++ t))
+  abbrev front3 : List ℕ
+  front3 = front2 ++ x .newest
 
-  abbrev tail : List ℕ
-  tail = u .records .seen ++ (u .records .newest ++ u .records .older)
+  length1 : length front1 ≡ recordStart n
+  length1 = simp length-append (omega (arith, words-length (u .itlb), words-length (u .dtlb), z .registers, z .itlb, z .dtlb))
 
-  abbrev dtail : List ℕ
-  dtail = wordsOf (u .dtlb) ++ tail
+  length2 : length front2 ≡ recordStart n + recordCount
+  length2 = length-append front1 (x .seen) ∙ omega (arith, length1, z .seen)
 
-  place : (i : ℕ) → recordStart n + i ≡ registerWords + (n .itlb * 4 + (n .dtlb * 4 + i))
-  place i = omega arith
+  length3 : length front3 ≡ recordStart n + recordCount + recordCount
+  length3 = length-append front2 (x .newest) ∙ omega (arith, length2, z .newest)
 
-  tail-drop : (i : ℕ) → drop (recordStart n + i) (encode u) ≡ drop i tail
+  -- the words of a state with other records, from there on
+  from1 : (a : List ℕ) → encode (withRecords u (record { seen = a; newest = x .newest; older = x .older })) ≡ front1 ++ (a ++ (x .newest ++ x .older))
   unfolding encode
-  tail-drop i =
-      ap (λ k. drop k (encode u)) (place i)
-      ∙ drop-past (u .registers) (wordsOf (u .itlb) ++ dtail) registerWords (n .itlb * 4 + (n .dtlb * 4 + i)) (z .registers)
-      ∙ drop-past (wordsOf (u .itlb)) dtail (n .itlb * 4) (n .dtlb * 4 + i) itlb-words ∙ drop-past (wordsOf (u .dtlb)) tail (n .dtlb * 4) i dtlb-words
+  from1 a = simp append-assoc
 
-  tail-set : (i v : ℕ) → set (encode u) (recordStart n + i) v ≡ withTail (set tail i v)
+  from2 : (b : List ℕ) → encode (withRecords u (record { seen = x .seen; newest = b; older = x .older })) ≡ front2 ++ (b ++ x .older)
   unfolding encode
-  tail-set i v =
-      ap (λ k. set (encode u) k v) (place i) ∙ set-past (u .registers) _ registerWords _ v (z .registers)
-      ∙ ap (λ w. u .registers ++ w) (set-past (wordsOf (u .itlb)) _ (n .itlb * 4) _ v itlb-words
-      ∙ ap (λ w. wordsOf (u .itlb) ++ w) (set-past (wordsOf (u .dtlb)) tail (n .dtlb * 4) i v dtlb-words))
+  from2 b = simp append-assoc
 
-  tail-spliced : (i k : ℕ) (s : List ℕ) → spliced (recordStart n + i) k s (encode u) ≡ withTail (spliced i k s tail)
+  from3 : (c : List ℕ) → encode (withRecords u (record { seen = x .seen; newest = x .newest; older = c })) ≡ front3 ++ c
   unfolding encode
-  tail-spliced i k s =
-      ap (λ a. spliced a k s (encode u)) (place i)
-      ∙ splice-past (u .registers) (wordsOf (u .itlb) ++ dtail) s registerWords (n .itlb * 4 + (n .dtlb * 4 + i)) k (z .registers)
-      ∙ ap (λ w. u .registers ++ w) (splice-past (wordsOf (u .itlb)) dtail s (n .itlb * 4) (n .dtlb * 4 + i) k itlb-words
-      ∙ ap (λ w. wordsOf (u .itlb) ++ w) (splice-past (wordsOf (u .dtlb)) tail s (n .dtlb * 4) i k dtlb-words))
+  from3 c = simp append-assoc
 
   module _ (r : ℕ) (h : r < recordCount) where
     -- read
-    pub seen-read : getD (encode u) (recordStart n + r) 0 ≡ getD (u .records .seen) r 0
+    pub seen-read : getD (encode u) (recordStart n + r) 0 ≡ getD (x .seen) r 0
     seen-read =
-        sym (drop-first (recordStart n + r) (encode u)) ∙ ap (λ w. getD w 0 0) (tail-drop r) ∙ drop-first r tail
-        ∙ List·getD-append (u .records .seen) _ 0 r (omega (arith, z .seen))
+        ap (λ w. getD w (recordStart n + r) 0) (from1 (x .seen)) ∙ getD-past front1 _ _ r length1
+        ∙ List·getD-append (x .seen) _ 0 r (omega (arith, z .seen))
 
-    pub newest-read : getD (encode u) (recordStart n + (recordCount + r)) 0 ≡ getD (u .records .newest) r 0
+    pub newest-read : getD (encode u) (recordStart n + recordCount + r) 0 ≡ getD (x .newest) r 0
     newest-read =
-        sym (drop-first (recordStart n + (recordCount + r)) (encode u)) ∙ ap (λ w. getD w 0 0) (tail-drop (recordCount + r)
-        ∙ drop-past (u .records .seen) (u .records .newest ++ u .records .older) recordCount r (z .seen))
-        ∙ drop-first r (u .records .newest ++ u .records .older)
-        ∙ List·getD-append (u .records .newest) _ 0 r (omega (arith, z .newest))
+        ap (λ w. getD w (recordStart n + recordCount + r) 0) (from2 (x .newest)) ∙ getD-past front2 _ _ r length2
+        ∙ List·getD-append (x .newest) _ 0 r (omega (arith, z .newest))
 
-    pub older-read : take 15 (drop (recordStart n + (recordCount + (recordCount + olderStart r))) (encode u)) ≡ olderOf (u .records .older) r
-    older-read = ap (take 15) (tail-drop (recordCount + (recordCount + olderStart r))
-        ∙ drop-past (u .records .seen) (u .records .newest ++ u .records .older) recordCount (recordCount + olderStart r) (z .seen)
-        ∙ drop-past (u .records .newest) (u .records .older) recordCount (olderStart r) (z .newest))
+    pub older-read : take 15 (drop (recordStart n + recordCount + recordCount + olderStart r) (encode u)) ≡ olderOf (x .older) r
+    older-read = ap (take 15)
+        (ap (drop (recordStart n + recordCount + recordCount + olderStart r)) (from3 (x .older)) ∙ drop-past front3 _ _ (olderStart r) length3)
 
     -- stored
     pub seen-stored : (v : ℕ) → set (encode u) (recordStart n + r) v
-        ≡ encode (withRecords u (record { seen = set (u .records .seen) r v; newest = u .records .newest; older = u .records .older }))
-    unfolding encode
-    seen-stored v = tail-set r v ∙ ap withTail (set-append-left (u .records .seen) _ r v (omega (arith, z .seen)))
+        ≡ encode (withRecords u (record { seen = set (x .seen) r v; newest = x .newest; older = x .older }))
+    seen-stored v =
+        ap (λ w. set w (recordStart n + r) v) (from1 (x .seen)) ∙ set-past front1 _ _ r v length1
+        ∙ ap (λ w. front1 ++ w) (set-append-left (x .seen) _ r v (omega (arith, z .seen))) ∙ sym (from1 (set (x .seen) r v))
 
-    pub newest-stored : (v : ℕ) → set (encode u) (recordStart n + (recordCount + r)) v
-        ≡ encode (withRecords u (record { seen = u .records .seen; newest = set (u .records .newest) r v; older = u .records .older }))
-    unfolding encode
+    pub newest-stored : (v : ℕ) → set (encode u) (recordStart n + recordCount + r) v
+        ≡ encode (withRecords u (record { seen = x .seen; newest = set (x .newest) r v; older = x .older }))
     newest-stored v =
-        tail-set (recordCount + r) v ∙ ap withTail (set-past (u .records .seen) _ recordCount r v (z .seen)
-        ∙ ap (λ w. u .records .seen ++ w) (set-append-left (u .records .newest) _ r v (omega (arith, z .newest))))
+        ap (λ w. set w (recordStart n + recordCount + r) v) (from2 (x .newest)) ∙ set-past front2 _ _ r v length2
+        ∙ ap (λ w. front2 ++ w) (set-append-left (x .newest) _ r v (omega (arith, z .newest))) ∙ sym (from2 (set (x .newest) r v))
 
-    pub older-stored : (s : List ℕ) → spliced (recordStart n + (recordCount + (recordCount + olderStart r))) 15 s (encode u)
-        ≡ encode (withRecords u (record { seen = u .records .seen; newest = u .records .newest; older = withOlder (u .records .older) r s }))
-    unfolding encode
+    pub older-stored : (s : List ℕ) → spliced (recordStart n + recordCount + recordCount + olderStart r) 15 s (encode u)
+        ≡ encode (withRecords u (record { seen = x .seen; newest = x .newest; older = withOlder (x .older) r s }))
     older-stored s =
-        tail-spliced (recordCount + (recordCount + olderStart r)) 15 s ∙ ap withTail
-        (splice-past (u .records .seen) (u .records .newest ++ u .records .older) s recordCount (recordCount + olderStart r) 15 (z .seen)
-        ∙ ap (λ w. u .records .seen ++ w) (splice-past (u .records .newest) (u .records .older) s recordCount (olderStart r) 15 (z .newest)))
+        ap (spliced (recordStart n + recordCount + recordCount + olderStart r) 15 s) (from3 (x .older))
+        ∙ splice-past front3 _ s _ (olderStart r) 15 length3 ∙ sym (from3 (withOlder (x .older) r s))

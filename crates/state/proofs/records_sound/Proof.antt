@@ -1,15 +1,15 @@
 -- `state::records_sound` meets its contract. The loop has seen the records below i.
 use Prim.Native.Nat.{ℕ, _-_, _≤_, _<_}
-use mathlib.Core.Path.{_≡_, sym, ap, _∙_}
+use mathlib.Core.Path.{_≡_, refl, sym, ap, _∙_}
 use mathlib.Core.Bool.{Bool, true}
 use mathlib.Core.List.{List}
+use native.Mathlib.Numerals.{add-one}
 use native.Mathlib.Omega.{arith}
-use borrow.Author.Tests.{eq-eqb, eqb-true, eqb-false, not-true, not-false}
-use lib.Dec.{eqb}
+use borrow.Author.Tests.{eq-eqb, not-true, not-false}
 use lib.ListN.{length, getD}
 use Rattle.laws.specs.Tests.{allBelow}
 use Rattle.laws.proofs.Bools.{by-test, clash}
-use Rattle.laws.proofs.Belows.{below-at, below-all}
+use Rattle.laws.proofs.Belows.{below-at}
 use Rattle.machine.specs.Record.{Records, olderOf, recordSound, recordsSound}
 use Rattle.machine.specs.State.{counts, stateIn}
 use Rattle.state.specs.Calls.{Lent}
@@ -29,10 +29,14 @@ each-sound words l =
     rw (eq-eqb _ _ (z .seen), eq-eqb _ _ (z .newest), eq-eqb _ _ (z .older))
 
 abbrev Inv-loop : tie.InvT-loop
-Inv-loop state i₀ i = (i ≤ 8) × ((k : ℕ) → k < i → sound state k ≡ true)
+Inv-loop state i₀ i = (i ≤ 8) × (allBelow (sound state) i ≡ true)
 
 abbrev μ-loop : tie.MeasureT-loop
 μ-loop state i₀ i = 8 - i
+
+loop-holds : tie.Need-loop-holds Inv-loop μ-loop
+unfolding allBelow
+loop-holds c = (omega arith, refl)
 
 -- what is told of record i
 told : (c : tie.After-record-sound Inv-loop μ-loop) →
@@ -57,20 +61,18 @@ returns c =
     (λ e. e))
 
 loop-again : tie.Need-loop-again Inv-loop μ-loop
+unfolding allBelow
 loop-again c =
     let t = c .before in
-    let at = t .before .before .before .before .before in (
-      omega arith,
-      λ k b. by-test (eqb k (at .loop .i))
-          (λ e. rw (eqb-true k (at .loop .i) e) (told t ∙ not-false (t .record-sound .result) (c .if1 .left)))
-          (λ e. at .loop .inv .1 k (omega (arith, eqb-false k (at .loop .i) e))),
-    )
+    let at = t .before .before .before .before .before in
+    (omega arith, rw (add-one (at .loop .i), told t ∙ not-false (t .record-sound .result) (c .if1 .left), at .loop .inv .1))
 
 returns-2 : tie.Need-returns-2 Inv-loop μ-loop
 returns-2 c =
     let at = c .before in
     let s = at .before .before in
-    sym (each-sound (s .args .state .now) (s .pre) ∙ below-all _ 8 (λ k b. at .loop .inv .1 k (omega arith)))
+    let e : at .loop .i ≡ 8 = omega arith in
+    sym (each-sound (s .args .state .now) (s .pre) ∙ rw e at (at .loop .inv .1))
 
 pub records-sound-spec : {M : Type 1} → statement M
 records-sound-spec =
@@ -78,7 +80,7 @@ records-sound-spec =
     (tie.spec
     Inv-loop
     μ-loop
-    (λ c. (omega arith, λ k b. absurd (omega arith)))
+    loop-holds
     (λ c. omega arith)
     (λ c. omega arith)
     (λ c. let s = c .before .before .before .before in omega (arith, s .pre))
