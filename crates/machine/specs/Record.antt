@@ -85,12 +85,13 @@ noRecords = record { seen = replicate recordCount 0; newest = replicate recordCo
 abbrev pub newestBits : ℕ → ℕ
 newestBits n = cond (ltb 1024 n) 64 (n - (n - 1) / 64 * 64)
 
--- no bit is set that no lookup kept has; an older word is in use once there are more lookups than fill it and those before it
+-- an older word is in use once there are more lookups than fill it and those before it
+abbrev pub olderSound : ℕ → List ℕ → Bool
+olderSound n old = allBelow (λ j. ltb (getD old j 0) (cond (ltb (64 * (j + 1)) n) (2 ^ 64) 1)) 15
+
+-- no bit is set that no lookup kept has
 unfoldable pub recordSound : ℕ → ℕ → List ℕ → Bool
-recordSound n word old =
-    ltb n 1089
-    && (ltb word (2 ^ newestBits n)
-    && allBelow (λ j. ltb (getD old j 0) (cond (ltb (64 * (j + 1)) n) (2 ^ 64) 1)) 15)
+recordSound n word old = ltb n 1089 && (ltb word (2 ^ newestBits n) && olderSound n old)
 
 unfoldable pub recordsSound : Records → Bool
 recordsSound x =

@@ -1,5 +1,5 @@
 -- Words without a set bit, and a sound record by them. Assumes nothing.
-use Prim.Native.Nat.{ℕ, _+_, _*_, _-_, _/_, _^_, _≤_, _<_}
+use Prim.Native.Nat.{ℕ, _+_, _*_, _/_, _^_, _≤_, _<_}
 use mathlib.Core.Path.{_≡_, sym, ap, _∙_}
 use mathlib.Core.Bool.{true, cond, _&&_, _||_, and-true}
 use mathlib.Core.List.{List}
@@ -9,11 +9,11 @@ use lib.Bits.{bitOr, or-add-and, and-le-l, and-le-r}
 use lib.Dec.{eqb, ltb}
 use lib.ListN.{getD}
 use lib.Pow.{pow-pos, pow-add}
-use borrow.Author.Tests.{eqb-true, ltb-true, ltb-false, eq-eqb, lt-ltb, le-ltb}
+use borrow.Author.Tests.{eqb-true, ltb-true, eq-eqb, lt-ltb}
 use Rattle.laws.specs.Tests.{allBelow}
 use Rattle.laws.proofs.Bools.{by-test, both-ways, and-both, and-left, and-right}
 use Rattle.laws.proofs.Belows.{below-at, below-all}
-use Rattle.machine.specs.Record.{recordSound}
+use Rattle.machine.specs.Record.{newestBits, olderSound, recordSound}
 
 -- two words have none where their union has none
 pub or-clear : (a b : ℕ) → eqb (bitOr a b) 0 ≡ (eqb b 0 && eqb a 0)
@@ -40,31 +40,28 @@ shift-low w k =
     (λ h. lt-ltb w (2 ^ (k + 1)) (rw e at (div-lt-iff-lt-mul {y = 2} (pow-pos k) .0 (ltb-true (w / 2 ^ k) 2 h))))
     (λ h. lt-ltb (w / 2 ^ k) 2 (div-lt-iff-lt-mul {y = 2} (pow-pos k) .1 (rw (sym e) at (ltb-true w (2 ^ (k + 1)) h))))
 
-module _ (n word : ℕ) (old : List ℕ) (fit : (j : ℕ) → getD old j 0 < 2 ^ 64) where
+module _ (n : ℕ) (old : List ℕ) (fit : (j : ℕ) → getD old j 0 < 2 ^ 64) where
+  -- a word in use has any bits, and one not in use none
+  word-clear : (j : ℕ) → ltb (getD old j 0) (cond (ltb (64 * (j + 1)) n) (2 ^ 64) 1) ≡ (ltb (64 * (j + 1)) n || eqb (getD old j 0) 0)
+  word-clear j = by-test (ltb (64 * (j + 1)) n)
+      (λ e. rw e (lt-ltb (getD old j 0) (2 ^ 64) (fit j)))
+      (λ e. rw e (sym (zero-below (getD old j 0))))
+
+  older-clear : olderSound n old ≡ allBelow (λ j. ltb (64 * (j + 1)) n || eqb (getD old j 0) 0) 15
+  older-clear =
+      both-ways _ _
+      (λ t. below-all _ 15 (λ j l. sym (word-clear j) ∙ below-at _ 15 j t l))
+      (λ t. below-all _ 15 (λ j l. word-clear j ∙ below-at _ 15 j t l))
+
   -- of more than 1,024 lookups every bit may be set
-  pub record-long : 1024 < n → word < 2 ^ 64 → recordSound n word old ≡ ltb n 1089
+  pub record-long : (word : ℕ) → 1024 < n → word < 2 ^ 64 → recordSound n word old ≡ ltb n 1089
   unfolding recordSound
-  record-long h b =
-      let e : ltb 1024 n ≡ true = lt-ltb 1024 n h in
-      let each : allBelow (λ j. ltb (getD old j 0) (cond (ltb (64 * (j + 1)) n) (2 ^ 64) 1)) 15 ≡ true =
-      below-all _ 15 (λ j l. rw (lt-ltb (64 * (j + 1)) n (omega arith)) (lt-ltb (getD old j 0) (2 ^ 64) (fit j))) in
-      rw (e, lt-ltb word (2 ^ 64) b, each) (and-true (ltb n 1089))
+  record-long word h b =
+      let each : olderSound n old ≡ true = older-clear ∙ below-all _ 15 (λ j l. rw (lt-ltb (64 * (j + 1)) n (omega arith))) in
+      rw (lt-ltb 1024 n h, lt-ltb word (2 ^ 64) b, each) (and-true (ltb n 1089))
 
-  module _ (from : ℕ) (h : n ≤ 1024) (f : from ≡ (n - 1) / 64) where
-    -- a word in use has any bits, and one not in use none
-    word-clear : (j : ℕ) → ltb (getD old j 0) (cond (ltb (64 * (j + 1)) n) (2 ^ 64) 1) ≡ (ltb j from || eqb (getD old j 0) 0)
-    word-clear j = by-test (ltb j from)
-        (λ e. rw (e, lt-ltb (64 * (j + 1)) n (omega (arith, ltb-true j from e))) (lt-ltb (getD old j 0) (2 ^ 64) (fit j)))
-        (λ e. rw (e, le-ltb (64 * (j + 1)) n (omega (arith, ltb-false j from e))) (sym (zero-below (getD old j 0))))
-
-    older-clear : allBelow (λ j. ltb (getD old j 0) (cond (ltb (64 * (j + 1)) n) (2 ^ 64) 1)) 15 ≡ allBelow (λ j. ltb j from || eqb (getD old j 0) 0) 15
-    older-clear =
-        both-ways _ _
-        (λ t. below-all _ 15 (λ j l. sym (word-clear j) ∙ below-at _ 15 j t l))
-        (λ t. below-all _ 15 (λ j l. word-clear j ∙ below-at _ 15 j t l))
-
-    -- of at most 1,024 the newest word has no bit past its outcomes, and a word not in use has none
-    pub record-short : (bits : ℕ) → bits ≡ n - (n - 1) / 64 * 64
-        → recordSound n word old ≡ (ltb word (2 ^ bits) && allBelow (λ j. ltb j from || eqb (getD old j 0) 0) 15)
-    unfolding recordSound
-    record-short bits e = rw (lt-ltb n 1089 (omega arith), le-ltb 1024 n h, older-clear, e)
+  -- of others the newest word has no bit past its outcomes, and a word not in use none
+  pub record-short : (word : ℕ) → n ≤ 1024
+      → recordSound n word old ≡ (ltb word (2 ^ newestBits n) && allBelow (λ j. ltb (64 * (j + 1)) n || eqb (getD old j 0) 0) 15)
+  unfolding recordSound
+  record-short word h = rw (lt-ltb n 1089 (omega arith), older-clear)

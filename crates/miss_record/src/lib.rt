@@ -2,11 +2,11 @@
 ghost use mathlib.Core.Path.{_≡_};
 ghost use mathlib.Core.Bool.{_||_};
 ghost use mathlib.Core.List.{_∷_};
-ghost use Prim.Native.Nat.{_+_, _≤_, _<_};
+ghost use Prim.Native.Nat.{_+_, _*_, _^_, _≤_, _<_};
 ghost use lib.Dec.{eqb, ltb};
 ghost use lib.ListN.{length, getD, take};
 ghost use Rattle.laws.specs.Tests.{allBelow};
-ghost use Rattle.machine.specs.Record.{pushed, onesOf, perThousand, recordSound};
+ghost use Rattle.machine.specs.Record.{pushed, onesOf, perThousand, newestBits, recordSound};
 
 // The word with one more lookup in it, which is taken for a hit.
 pub fn push(word: u64) -> u64
@@ -59,20 +59,31 @@ pub fn per_thousand(part: u64, whole: u64) -> u64
     part * 1000 / whole
 }
 
-// Whether no bit is set in the words from the one given on. All are gone through, which the compiler unrolls: fewer instructions.
-fn clear_from(words: &[u64], from: usize) -> bool
-    requires { ⌜ length (now words) ≡ 15 ⌝ }
-    ensures { λ r. ⌜ r ≡ allBelow (λ j. ltb j from || eqb (getD (now (words .entry)) j 0) 0) 15 ⌝ }
+// Whether the newest word has no bit past its outcomes.
+fn newest_sound(seen: u64, newest: u64) -> bool
+    requires { ⌜ seen ≤ 1024 ⌝ }
+    ensures { λ r. ⌜ r ≡ ltb newest (2 ^ newestBits seen) ⌝ }
 {
-    let mut all = 0;
+    if seen == 0 {
+        return newest == 0;
+    }
+    newest >> ((seen - 1) % 64) < 2
+}
+
+// Whether no older word has a bit that is not in use. All are gone through, which the compiler unrolls: fewer instructions.
+fn older_sound(seen: u64, older: &[u64]) -> bool
+    requires { ⌜ length (now older) ≡ 15 ⌝ }
+    ensures { λ r. ⌜ r ≡ allBelow (λ j. ltb (64 * (j + 1)) seen || eqb (getD (now (older .entry)) j 0) 0) 15 ⌝ }
+{
+    let mut unused = 0;
     let mut i = 0;
     while i < machine::OLDER_WORDS {
-        if from <= i {
-            all |= words[i];
+        if seen <= 64 * (i as u64 + 1) {
+            unused |= older[i];
         }
         i += 1;
     }
-    all == 0
+    unused == 0
 }
 
 // Whether a record has no bit that no lookup kept has.
@@ -80,14 +91,9 @@ pub fn record_sound(seen: u64, newest: u64, older: &[u64]) -> bool
     requires { ⌜ length (now older) ≡ 15 ⌝ }
     ensures { λ r. ⌜ r ≡ recordSound seen newest (now (older .entry)) ⌝ }
 {
+    // then every bit is in use
     if 1024 < seen {
         return seen < 1089;
     }
-    // most records are full or empty; of an empty one the compiler knows the words
-    if seen == 0 {
-        return newest == 0 && clear_from(older, 0);
-    }
-    // so many older words are full, and no bit of the newest one is set past that of its first outcome
-    let full = (seen - 1) / 64;
-    newest >> ((seen - 1) % 64) < 2 && clear_from(older, full as usize)
+    newest_sound(seen, newest) && older_sound(seen, older)
 }

@@ -1,5 +1,5 @@
--- `miss_record::clear_from` meets its contract. The loop has joined those of the words below i that count.
-use Prim.Native.Nat.{_-_, _≤_}
+-- `miss_record::older_sound` meets its contract. The loop has joined those of the words below i that are not in use.
+use Prim.Native.Nat.{_+_, _*_, _-_, _≤_}
 use mathlib.Core.Path.{_≡_, refl, _∙_}
 use mathlib.Core.Logic.{⊎-elim}
 use mathlib.Core.Bool.{_&&_, _||_}
@@ -10,14 +10,15 @@ use lib.Dec.{eqb, ltb}
 use lib.ListN.{getD}
 use Rattle.laws.specs.Tests.{allBelow}
 use Rattle.miss_record.proofs.Clear.{or-clear}
-use Rattle.miss_record.proofs.clear_from.Statement.{statement}
-use Rattle.miss_record.proofs.clear_from.Tie as tie
+use Rattle.miss_record.proofs.older_sound.Statement.{statement}
+use Rattle.miss_record.proofs.older_sound.Tie as tie
 
 abbrev Inv-loop : tie.InvT-loop
-Inv-loop words from all₀ i₀ all i = (i ≤ 15) × (eqb all 0 ≡ allBelow (λ j. ltb j from || eqb (getD words j 0) 0) i)
+Inv-loop seen older unused₀ i₀ unused i =
+    (i ≤ 15) × (eqb unused 0 ≡ allBelow (λ j. ltb (64 * (j + 1)) seen || eqb (getD older j 0) 0) i)
 
 abbrev μ-loop : tie.MeasureT-loop
-μ-loop words from all₀ i₀ all i = 15 - i
+μ-loop seen older unused₀ i₀ unused i = 15 - i
 
 loop-holds : tie.Need-loop-holds Inv-loop μ-loop
 unfolding allBelow
@@ -29,12 +30,12 @@ loop-again c =
     let at = c .before .before in
     let l = at .loop in
     let a = at .before .args in
-    let joined : eqb (c .if1 .all) 0 ≡ ((ltb (l .i) (a .from) || eqb (getD (a .words .now) (l .i) 0) 0) && eqb (l .all) 0) =
+    let joined : eqb (c .if1 .unused) 0 ≡ ((ltb (64 * (l .i + 1)) (a .seen) || eqb (getD (a .older .now) (l .i) 0) 0) && eqb (l .unused) 0) =
     ⊎-elim
-    (λ w. rw (w .2, le-ltb (l .i) (a .from) (w .0 .taken)) (or-clear (l .all) _))
-    (λ w. rw (w .1, lt-ltb (l .i) (a .from) (omega (arith, w .0 .left))))
+    (λ w. rw (w .2, le-ltb (64 * (l .i + 1)) (a .seen) (omega (arith, w .0 .taken))) (or-clear (l .unused) _))
+    (λ w. rw (w .1, lt-ltb (64 * (l .i + 1)) (a .seen) (omega (arith, w .0 .left))))
     (c .if1 .came) in
-    (omega arith, joined ∙ rw (add-one (l .i), l .inv .1))
+    (omega arith, rw (add-one (l .i)) (joined ∙ rw (l .inv .1)))
 
 returns : tie.Need-returns Inv-loop μ-loop
 returns c =
@@ -42,13 +43,15 @@ returns c =
     let e : l .i ≡ 15 = omega arith in
     rw e at (l .inv .1)
 
-pub clear-from-spec : {M : Type 1} → statement M
-clear-from-spec =
+pub older-sound-spec : {M : Type 1} → statement M
+older-sound-spec =
     tie.close
     (tie.spec
     Inv-loop
     μ-loop
     loop-holds
+    (λ c. omega arith)
+    (λ c. omega arith)
     (λ c. omega arith)
     (λ c. omega arith)
     (λ c. omega arith)
