@@ -21,6 +21,12 @@ unfolding allBelow
 below-all p zero h = refl
 below-all p (suc n) h = and-both (p n) _ (h n (omega arith)) (below-all p n (λ i k. h i (omega arith)))
 
+-- two tests that agree at each of them
+pub below-same : (p q : ℕ → Bool) (n : ℕ) → ((i : ℕ) → i < n → p i ≡ q i) → allBelow p n ≡ allBelow q n
+unfolding allBelow
+below-same p q zero h = refl
+below-same p q (suc n) h = rw (h n (omega arith), below-same p q n (λ i k. h i (omega arith)))
+
 -- kept by another test that passes at k and is the same elsewhere
 pub below-change : (p q : ℕ → Bool) (n k : ℕ) → q k ≡ true → ((i : ℕ) → (i ≡ k → ⊥) → q i ≡ p i) → allBelow p n ≡ true → allBelow q n ≡ true
 below-change p q n k e same h =

@@ -12,7 +12,7 @@ use lib.Pow.{pow-pos, pow-add}
 use borrow.Author.Tests.{eqb-true, ltb-true, eq-eqb, lt-ltb}
 use Rattle.laws.specs.Tests.{allBelow}
 use Rattle.laws.proofs.Bools.{by-test, both-ways, and-both, and-left, and-right}
-use Rattle.laws.proofs.Belows.{below-at, below-all}
+use Rattle.laws.proofs.Belows.{below-all, below-same}
 use Rattle.machine.specs.Record.{newestBits, olderSound, recordSound}
 
 -- two words have none where their union has none
@@ -48,10 +48,7 @@ module _ (n : ℕ) (old : List ℕ) (fit : (j : ℕ) → getD old j 0 < 2 ^ 64) 
       (λ e. rw e (sym (zero-below (getD old j 0))))
 
   older-clear : olderSound n old ≡ allBelow (λ j. ltb (64 * (j + 1)) n || eqb (getD old j 0) 0) 15
-  older-clear =
-      both-ways _ _
-      (λ t. below-all _ 15 (λ j l. sym (word-clear j) ∙ below-at _ 15 j t l))
-      (λ t. below-all _ 15 (λ j l. word-clear j ∙ below-at _ 15 j t l))
+  older-clear = below-same _ _ 15 (λ j l. word-clear j)
 
   -- of more than 1,024 lookups every bit may be set
   pub record-long : (word : ℕ) → 1024 < n → word < 2 ^ 64 → recordSound n word old ≡ ltb n 1089

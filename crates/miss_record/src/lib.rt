@@ -70,13 +70,13 @@ fn newest_sound(seen: u64, newest: u64) -> bool
     newest >> ((seen - 1) % 64) < 2
 }
 
-// Whether no older word has a bit that is not in use. All are gone through, which the compiler unrolls: fewer instructions.
-fn older_sound(seen: u64, older: &[u64]) -> bool
-    requires { ⌜ length (now older) ≡ 15 ⌝ }
-    ensures { λ r. ⌜ r ≡ allBelow (λ j. ltb (64 * (j + 1)) seen || eqb (getD (now (older .entry)) j 0) 0) 15 ⌝ }
+// Whether no older word from the one given on has a bit that is not in use. All are gone through, which the compiler unrolls: fewer instructions.
+fn clear_from(seen: u64, older: &[u64], from: usize) -> bool
+    requires { ⌜ (length (now older) ≡ 15) × (from ≤ 15) ⌝ }
+    ensures { λ r. ⌜ r ≡ allBelow (λ j. ltb j from || (ltb (64 * (j + 1)) seen || eqb (getD (now (older .entry)) j 0) 0)) 15 ⌝ }
 {
     let mut unused = 0;
-    let mut i = 0;
+    let mut i = from;
     while i < machine::OLDER_WORDS {
         if seen <= 64 * (i as u64 + 1) {
             unused |= older[i];
@@ -84,6 +84,18 @@ fn older_sound(seen: u64, older: &[u64]) -> bool
         i += 1;
     }
     unused == 0
+}
+
+// Whether no older word has a bit that is not in use.
+fn older_sound(seen: u64, older: &[u64]) -> bool
+    requires { ⌜ length (now older) ≡ 15 ⌝ }
+    ensures { λ r. ⌜ r ≡ allBelow (λ j. ltb (64 * (j + 1)) seen || eqb (getD (now (older .entry)) j 0) 0) 15 ⌝ }
+{
+    // then the first seven are in use
+    if 448 < seen {
+        return clear_from(seen, older, 7);
+    }
+    clear_from(seen, older, 0)
 }
 
 // Whether a record has no bit that no lookup kept has.

@@ -234,11 +234,12 @@ pub fn miss_rate(state: &[u64], strand: u8, side: u8) -> u64
     miss_record::per_thousand(newest + older, lookups_kept(state, strand, side))
 }
 
-// Whether every record is sound.
+// Whether every record is sound. All are asked, as in `state_sound`.
 fn records_sound(state: &[u64]) -> bool
     requires { ⌜ Lent (now state) ⌝ }
     ensures { λ r. ⌜ r ≡ recordsSound (stateIn (now (state .entry)) .records) ⌝ }
 {
+    let mut all = true;
     let mut i = 0;
     while i < machine::RECORDS {
         if !miss_record::record_sound(
@@ -246,14 +247,15 @@ fn records_sound(state: &[u64]) -> bool
             state[machine::NEWEST + i],
             older_of(state, i),
         ) {
-            return false;
+            all = false;
         }
         i += 1;
     }
-    true
+    all
 }
 
-// Number 1, of any words: the length, the registers, both sides and the records.
+// Number 1, of any words: the length, the registers, both sides and the records. All four are asked, with no way out between them: where each
+// can end a run, the compiler takes its commands for unlikely and keeps less of them in registers.
 pub fn state_sound(state: &[u64]) -> bool
     ensures { λ r. ⌜ r ≡ wordsSound counts (now (state .entry)) ⌝ }
 {
@@ -264,9 +266,8 @@ pub fn state_sound(state: &[u64]) -> bool
     let seen: &mut [u8] = &mut buckets;
     // another mark for side 1: what side 0 left in the table does not count
     registers::file_sound(&state[0..machine::REGISTER_WORDS])
-        && (tlb_sound::side_sound(&state[machine::REGISTER_WORDS..DTLB], seen, 1)
-            && (tlb_sound::side_sound(&state[DTLB..machine::SEEN], seen, 2)
-                && records_sound(state)))
+        & (tlb_sound::side_sound(&state[machine::REGISTER_WORDS..DTLB], seen, 1)
+            & (tlb_sound::side_sound(&state[DTLB..machine::SEEN], seen, 2) & records_sound(state)))
 }
 
 fn reset_word(i: usize) -> u64

@@ -1,60 +1,31 @@
--- `miss_record::older_sound` meets its contract. The loop has joined those of the words below i that are not in use.
-use Prim.Native.Nat.{_+_, _*_, _-_, _≤_}
-use mathlib.Core.Path.{_≡_, refl, _∙_}
-use mathlib.Core.Logic.{⊎-elim}
-use mathlib.Core.Bool.{_&&_, _||_}
-use native.Mathlib.Numerals.{add-one}
+-- `miss_record::older_sound` meets its contract.
+use Prim.Native.Nat.{ℕ, _+_, _*_, _<_}
+use mathlib.Core.Path.{_≡_, _∙_}
+use mathlib.Core.Bool.{_||_}
+use mathlib.Core.List.{List}
 use native.Mathlib.Omega.{arith}
-use borrow.Author.Tests.{lt-ltb, le-ltb}
+use borrow.Author.Needs.{needs}
+use borrow.Author.Tests.{ltb-true, lt-ltb}
 use lib.Dec.{eqb, ltb}
 use lib.ListN.{getD}
 use Rattle.laws.specs.Tests.{allBelow}
-use Rattle.miss_record.proofs.Clear.{or-clear}
+use Rattle.laws.proofs.Bools.{by-test}
+use Rattle.laws.proofs.Belows.{below-same}
 use Rattle.miss_record.proofs.older_sound.Statement.{statement}
 use Rattle.miss_record.proofs.older_sound.Tie as tie
 
-abbrev Inv-loop : tie.InvT-loop
-Inv-loop seen older unused₀ i₀ unused i =
-    (i ≤ 15) × (eqb unused 0 ≡ allBelow (λ j. ltb (64 * (j + 1)) seen || eqb (getD older j 0) 0) i)
+-- words that are all in use need not be asked
+passed : (seen from : ℕ) (older : List ℕ) → ((j : ℕ) → j < from → 64 * (j + 1) < seen)
+    → allBelow (λ j. ltb j from || (ltb (64 * (j + 1)) seen || eqb (getD older j 0) 0)) 15
+    ≡ allBelow (λ j. ltb (64 * (j + 1)) seen || eqb (getD older j 0) 0) 15
+passed seen from older h =
+    below-same _ _ 15 (λ j l. by-test (ltb j from) (λ e. rw (e, lt-ltb (64 * (j + 1)) seen (h j (ltb-true j from e)))) (λ e. rw e))
 
-abbrev μ-loop : tie.MeasureT-loop
-μ-loop seen older unused₀ i₀ unused i = 15 - i
+returns : tie.Need-returns
+returns c = c .clear-from .ensures ∙ passed _ 7 (c .before .before .before .args .older .now) (λ j l. omega (arith, c .before .if1 .taken))
 
-loop-holds : tie.Need-loop-holds Inv-loop μ-loop
-unfolding allBelow
-loop-holds c = (omega arith, refl)
-
-loop-again : tie.Need-loop-again Inv-loop μ-loop
-unfolding allBelow
-loop-again c =
-    let at = c .before .before in
-    let l = at .loop in
-    let a = at .before .args in
-    let joined : eqb (c .if1 .unused) 0 ≡ ((ltb (64 * (l .i + 1)) (a .seen) || eqb (getD (a .older .now) (l .i) 0) 0) && eqb (l .unused) 0) =
-    ⊎-elim
-    (λ w. rw (w .2, le-ltb (64 * (l .i + 1)) (a .seen) (omega (arith, w .0 .taken))) (or-clear (l .unused) _))
-    (λ w. rw (w .1, lt-ltb (64 * (l .i + 1)) (a .seen) (omega (arith, w .0 .left))))
-    (c .if1 .came) in
-    (omega arith, rw (add-one (l .i)) (joined ∙ rw (l .inv .1)))
-
-returns : tie.Need-returns Inv-loop μ-loop
-returns c =
-    let l = c .before .loop in
-    let e : l .i ≡ 15 = omega arith in
-    rw e at (l .inv .1)
+returns-2 : tie.Need-returns-2
+returns-2 c = c .clear-from2 .ensures ∙ passed _ 0 (c .before .before .before .args .older .now) (λ j l. absurd (omega (arith, l)))
 
 pub older-sound-spec : {M : Type 1} → statement M
-older-sound-spec =
-    tie.close
-    (tie.spec
-    Inv-loop
-    μ-loop
-    loop-holds
-    (λ c. omega arith)
-    (λ c. omega arith)
-    (λ c. omega arith)
-    (λ c. omega arith)
-    (λ c. omega arith)
-    (λ c. omega arith)
-    loop-again
-    returns)
+older-sound-spec = tie.close (tie.spec (λ c. search needs) returns (λ c. search needs) returns-2)

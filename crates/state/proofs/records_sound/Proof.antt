@@ -1,15 +1,14 @@
 -- `state::records_sound` meets its contract. The loop has seen the records below i.
 use Prim.Native.Nat.{ℕ, _-_, _≤_, _<_}
 use mathlib.Core.Path.{_≡_, refl, sym, ap, _∙_}
-use mathlib.Core.Bool.{Bool, true}
+use mathlib.Core.Bool.{Bool, _&&_}
 use mathlib.Core.List.{List}
+use mathlib.Core.Logic.{⊎-elim}
 use native.Mathlib.Numerals.{add-one}
 use native.Mathlib.Omega.{arith}
 use borrow.Author.Tests.{eq-eqb, not-true, not-false}
 use lib.ListN.{length, getD}
 use Rattle.laws.specs.Tests.{allBelow}
-use Rattle.laws.proofs.Bools.{by-test, clash}
-use Rattle.laws.proofs.Belows.{below-at}
 use Rattle.machine.specs.Record.{Records, olderOf, recordSound, recordsSound}
 use Rattle.machine.specs.State.{counts, stateIn}
 use Rattle.state.specs.Calls.{Lent}
@@ -29,10 +28,10 @@ each-sound words l =
     rw (eq-eqb _ _ (z .seen), eq-eqb _ _ (z .newest), eq-eqb _ _ (z .older))
 
 abbrev Inv-loop : tie.InvT-loop
-Inv-loop state i₀ i = (i ≤ 8) × (allBelow (sound state) i ≡ true)
+Inv-loop state all₀ i₀ all i = (i ≤ 8) × (all ≡ allBelow (sound state) i)
 
 abbrev μ-loop : tie.MeasureT-loop
-μ-loop state i₀ i = 8 - i
+μ-loop state all₀ i₀ all i = 8 - i
 
 loop-holds : tie.Need-loop-holds Inv-loop μ-loop
 unfolding allBelow
@@ -49,30 +48,24 @@ told c =
     let b : at .loop .i < 8 = omega arith in
     sym (c .record-sound .ensures ∙ rw (c .before .older-of .ensures, seen-at words (s .pre) (at .loop .i) b, newest-at words (s .pre) (at .loop .i) b))
 
-returns : tie.Need-returns Inv-loop μ-loop
-returns c =
-    let t = c .before in
-    let at = t .before .before .before .before .before in
-    let s = at .before .before in
-    let words = s .args .state .now in
-    let b : at .loop .i < 8 = omega arith in
-    sym (each-sound words (s .pre) ∙ by-test (allBelow (sound words) 8)
-    (λ e. clash (below-at (sound words) 8 (at .loop .i) e b) (told t ∙ not-true (t .record-sound .result) (c .if1 .taken)))
-    (λ e. e))
-
 loop-again : tie.Need-loop-again Inv-loop μ-loop
 unfolding allBelow
 loop-again c =
     let t = c .before in
-    let at = t .before .before .before .before .before in
-    (omega arith, rw (add-one (at .loop .i), told t ∙ not-false (t .record-sound .result) (c .if1 .left), at .loop .inv .1))
+    let l = t .before .before .before .before .before .loop in
+    let joined : c .if1 .all ≡ (t .record-sound .result && l .all) =
+    ⊎-elim
+    (λ w. rw (w .1, not-true (t .record-sound .result) (w .0 .taken)))
+    (λ w. rw (w .1, not-false (t .record-sound .result) (w .0 .left)))
+    (c .if1 .came) in
+    (omega arith, rw (add-one (l .i)) (joined ∙ rw (told t, l .inv .1)))
 
-returns-2 : tie.Need-returns-2 Inv-loop μ-loop
-returns-2 c =
+returns : tie.Need-returns Inv-loop μ-loop
+returns c =
     let at = c .before in
     let s = at .before .before in
     let e : at .loop .i ≡ 8 = omega arith in
-    sym (each-sound (s .args .state .now) (s .pre) ∙ rw e at (at .loop .inv .1))
+    rw e at (at .loop .inv .1) ∙ sym (each-sound (s .args .state .now) (s .pre))
 
 pub records-sound-spec : {M : Type 1} → statement M
 records-sound-spec =
@@ -91,8 +84,7 @@ records-sound-spec =
     (λ c κs.
     let s = c .before .before .before .before .before .before in
     ap length (c .older-of .ensures) ∙ older-long (s .args .state .now) (s .pre) (c .before .before .before .before .loop .i) (omega arith))
-    returns
     (λ c. omega arith)
     (λ c. omega arith)
     loop-again
-    returns-2)
+    returns)
