@@ -7,7 +7,7 @@ use Rattle.miss_record.proofs.push.Tie as tie
 
 returns : tie.Need-returns
 unfolding pushed
-returns c = (omega arith, omega arith)
+returns c = omega arith
 
 pub push-spec : {M : Type 1} → statement M
 push-spec = tie.close (tie.spec (λ c. search needs) returns)

@@ -21,7 +21,7 @@ slice-write-state-2 c = slice-read-push (c .before)
 returns : tie.Need-returns
 returns c =
     let s = c .before .before .before .before in
-    put-stored (s .args .state .now) (s .pre .0) (s .args .number) (s .pre .1) (c .push .result) (c .push .ensures .0)
+    put-stored (s .args .state .now) (s .pre .0) (s .args .number) (s .pre .1) (c .push .result) (c .push .ensures)
 
 pub put-lookup-spec : {M : Type 1} → statement M
 put-lookup-spec =
