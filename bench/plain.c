@@ -226,15 +226,18 @@ static unsigned demap(struct unit *u, u64 *r, const uint8_t *b, uint8_t *out) {
     unsigned side = b[2];
     if (side > 1) return 6;
     if (b[0] == 5) {
+        if (r[3] != 2) return 16;
         removal(u->sides[side], 5, r[0], false, 0, 0, out);
         return 0;
     }
     if (b[3] > 2 || (b[3] == 1 && side == 0)) return 7;
     if (b[0] == 4) {
+        if (r[3] == 0) return 16;
         removal(u->sides[side], 4, r[0], false, selected(r, b[3]), 0, out);
         return 0;
     }
     if (b[4] > 1) return 8;
+    if (r[3] == 0) return 16;
     if (!in_range(take8(b + 5))) return 11;
     removal(u->sides[side], 3, r[0], b[4], selected(r, b[3]), take8(b + 5), out);
     return 0;
@@ -242,16 +245,21 @@ static unsigned demap(struct unit *u, u64 *r, const uint8_t *b, uint8_t *out) {
 
 static unsigned pointers(const u64 *r, unsigned side, uint8_t *out) {
     if (side > 1) return 6;
+    if (r[3] == 0) return 16;
     u64 tag = r[20 + side], other = (tag & 0x1FFF) != 0, sizes = r[16 + 2 * side + other];
     const u64 *bases = r + 8 + 4 * side + 2 * other;
     answer(out, 3, 0, 0, 0, pointer(tag, bases[0], sizes & 7), pointer(tag, bases[1], sizes >> 8));
     return 0;
 }
 
-/* 0 where the command was answered, else its refusal. */
-static unsigned act(struct unit *u, const uint8_t *b, uint8_t *out) {
+/* The least mode that may write a register: 1 for 1, 2, 5 and 8 to 21, and 2 for the others. */
+static inline u64 least_to_write(unsigned n) { return 2 - (0x3FFF26u >> n & 1); }
+
+/* 0 where the command was answered, else its refusal. hypervisor: whether the stream is marked as the hypervisor's. */
+static unsigned act(struct unit *u, bool hypervisor, const uint8_t *b, uint8_t *out) {
     if (b[0] == 6) {
         if (b[1] > 1) return 6;
+        if (!hypervisor) return 16;
         removal(u->sides[b[1]], 6, 0, 0, 0, 0, out);
         return 0;
     }
@@ -262,12 +270,14 @@ static unsigned act(struct unit *u, const uint8_t *b, uint8_t *out) {
     case 1:
         if (x > 21 || x == 6 || x == 7) return 9;
         if (!value_allowed(x, take8(b + 3))) return 10;
+        if (r[3] < least_to_write(x)) return 16;
         r[x] = take8(b + 3);
         answer(out, 0, 0, 0, 0, 0, 0);
         return 0;
     case 2:
         if (x > 1) return 6;
         if (b[3] > 3) return 8;
+        if (r[3] < (b[3] == 0 ? 1 : 2)) return 16;
         return insert(u, r, x, b[3], take8(b + 4), out);
     case 7:
         if (x > 4) return 6;
@@ -280,13 +290,13 @@ static unsigned act(struct unit *u, const uint8_t *b, uint8_t *out) {
         answer(out, 3, 0, 0, 0, r[x], 0);
         return 0;
     case 9: return pointers(r, x, out);
-    case 10: return x > 1 ? 6 : rate(&u->records[b[1]][x], out);
+    case 10: return x > 1 ? 6 : r[3] == 0 ? 16 : rate(&u->records[b[1]][x], out);
     default: return demap(u, r, b, out);
     }
 }
 
 /* The state is taken to be sound. */
-static struct t1mmu_report run_unchecked(struct unit *u, const uint8_t *input, size_t length, uint8_t *output, size_t room) {
+static struct t1mmu_report run_unchecked(struct unit *u, bool hypervisor, const uint8_t *input, size_t length, uint8_t *output, size_t room) {
     static const uint8_t widths[11] = {
         [T1MMU_WRITE] = T1MMU_WRITE_BYTES,
         [T1MMU_INSERT] = T1MMU_INSERT_BYTES,
@@ -306,7 +316,7 @@ static struct t1mmu_report run_unchecked(struct unit *u, const uint8_t *input, s
         if (length - r.taken < widths[code]) { r.stop = 3; break; }
         if (room - T1MMU_ANSWER_BYTES * r.answered < T1MMU_ANSWER_BYTES) { r.stop = 4; break; }
         uint8_t *out = output + T1MMU_ANSWER_BYTES * r.answered;
-        unsigned number = act(u, input + r.taken, out);
+        unsigned number = act(u, hypervisor, input + r.taken, out);
         if (number) answer(out, 5, number, 0, 0, 0, 0);
         r.answered++;
         r.taken += widths[code];
@@ -314,9 +324,9 @@ static struct t1mmu_report run_unchecked(struct unit *u, const uint8_t *input, s
     return r;
 }
 
-static struct t1mmu_report run(struct unit *u, const uint8_t *input, size_t length, uint8_t *output, size_t room) {
+static struct t1mmu_report run(struct unit *u, bool hypervisor, const uint8_t *input, size_t length, uint8_t *output, size_t room) {
     if (!sound(u)) return (struct t1mmu_report){0, 0, 1};
-    return run_unchecked(u, input, length, output, room);
+    return run_unchecked(u, hypervisor, input, length, output, room);
 }
 
 /* The state is taken to be sound. */
@@ -363,7 +373,7 @@ static struct t1mmu_answered serve(struct unit *u, unsigned strand, unsigned sid
 
 /* The calls, with the soundness test and without. */
 const struct {
-    struct t1mmu_report (*run)(struct unit *, const uint8_t *, size_t, uint8_t *, size_t);
+    struct t1mmu_report (*run)(struct unit *, bool, const uint8_t *, size_t, uint8_t *, size_t);
     struct t1mmu_part (*hand_back)(const struct unit *, unsigned, unsigned, size_t, size_t);
     struct t1mmu_answered (*serve)(struct unit *, unsigned, unsigned, const uint8_t *, size_t, const uint8_t *, size_t);
 } plain_checked = {run, hand_back, serve}, plain_unchecked = {run_unchecked, hand_back_unchecked, serve_unchecked};

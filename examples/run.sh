@@ -1,6 +1,6 @@
 #!/usr/bin/env bash
-# The main job: proves and builds the library and the stream program, and shows document 01's printed run, each command and answer in
-# words beside its bytes.
+# The main job: proves and builds the library and the stream program, and shows document 01's printed run, in which a user's insertion is
+# refused, and a run in which a privileged strand's is not, each command and answer in words beside its bytes.
 set -euo pipefail
 cd "$(dirname "$0")/.."
 source tools/library.bash
@@ -11,5 +11,5 @@ gcc -std=c99 -Wall -Wextra -Iinclude -o target/examples/printed_run examples/c/p
 echo "document 01's printed run, from C (> a command, < its answer):"
 target/examples/printed_run
 echo
-echo "the stream program on the same bytes:"
+echo "the stream program on the bytes of the printed run:"
 target/bin/mmu_stream <crates/mmu_stream/stdin

@@ -8,12 +8,14 @@
  *     t1mmu_reset(state, T1MMU_STATE_WORDS);
  *     struct t1mmu_report r = t1mmu_run(state, T1MMU_STATE_WORDS, commands, length, answers, room);
  *
- * Above it stands a miss handler, t1mmu_hand_back and t1mmu_serve, over the guest's TSBs, which the caller lends too.
+ * t1mmu_run is for a guest's bytes, too: the mode of the strand that a command names says what it may do (enum t1mmu_mode). Commands of the
+ * hypervisor itself go by t1mmu_run_hypervisor, which takes an invalidation as well. Above both stands a miss handler, t1mmu_hand_back and
+ * t1mmu_serve, over the guest's TSBs, which the caller lends too.
  *
  * Every call is proved equal to a definition in crates/machine/specs, in its result, in every word of the state and in every byte of
  * the answers, for every value and every length that it may be given; and again to second texts of it, in no word of the first: a plain
- * ledger of entries with numbered places tells all that t1mmu_run and t1mmu_serve leave and return. The proof speaks of the ranges that a
- * pointer and its length name:
+ * ledger of entries with numbered places tells all that the two runs and t1mmu_serve leave and return. The proof speaks of the ranges that
+ * a pointer and its length name:
  *   - each range is the caller's to read, and state and output to write, for the whole of the call;
  *   - state, input and output do not overlap, nor does state with a table; state is aligned as uint64_t is;
  *   - with length 0 the pointer is not used, and may be null.
@@ -35,7 +37,7 @@ extern "C" {
 
 /* ---- sizes ---- */
 
-#define T1MMU_VERSION 0x030000u /* 3.0.0: major * 65536 + minor * 256 + patch */
+#define T1MMU_VERSION 0x040000u /* 4.0.0: major * 65536 + minor * 256 + patch */
 #define T1MMU_STATE_WORDS 776   /* the strands' register cells, then the slots of side 0, then those of side 1, then the miss records */
 #define T1MMU_ANSWER_BYTES 24
 #define T1MMU_STRANDS 4
@@ -73,7 +75,7 @@ enum t1mmu_command {
     T1MMU_DEMAP_PAGE = 0x03,    /* strand, side, selector, flags (T1MMU_REAL), address 8 */
     T1MMU_DEMAP_CONTEXT = 0x04, /* strand, side, selector */
     T1MMU_DEMAP_ALL = 0x05,     /* strand, side */
-    T1MMU_INVALIDATE = 0x06,    /* side */
+    T1MMU_INVALIDATE = 0x06,    /* side; by t1mmu_run_hypervisor alone */
     T1MMU_ACCESS = 0x07,        /* strand, kind, selector, size code, address 8 */
     T1MMU_READ = 0x08,          /* strand, register */
     T1MMU_POINTERS = 0x09,      /* strand, side */
@@ -127,6 +129,21 @@ enum t1mmu_register {
  * In T1MMU_HYPERPRIVILEGED an access is a bypass: it is not translated, and its physical address is the address modulo 2^40. Where bit 39 is
  * set that is I/O space, which takes no nonfaulting load and no atomic access: they get T1MMU_DATA_ACCESS_EXCEPTION, with context 0 in tag
  * access.
+ *
+ * The mode of the strand that a command names also says what the command may do; all else gets T1MMU_REFUSED_PERMISSION (specs: permitted):
+ *   - T1MMU_USER: access and read;
+ *   - T1MMU_PRIVILEGED: these, and write of registers 1, 2, 5 and 8 to 21, insert with flags 0 (virtual and unlocked), demap page (real, too),
+ *     demap context, pointers and rate;
+ *   - T1MMU_HYPERPRIVILEGED: all that names a strand.
+ * An invalidation names none. It is taken in the hypervisor's streams alone, whatever the modes are; these permit nothing else besides.
+ *
+ * What a hypervisor may rely on, over any commands that t1mmu_run takes, where every strand that they name is in mode 0 or 1: no partition
+ * and no mode changes, and no locked entry is lost whose partition is that of none of these strands. What it has to see to itself:
+ *   - Any bytes may name any strand, and at reset all are in mode 2. Before it runs a guest's bytes it sets mode, partition and translation of
+ *     every strand that they might name.
+ *   - Mode 1 may insert any physical address: memory is the hypervisor's to guard.
+ *   - No command leaves mode 0 or 1 again, by whichever call it comes. The hypervisor raises a strand's mode itself, between calls, in the
+ *     state's word at T1MMU_CELL_AT(strand, T1MMU_MODE), where 0, 1 and 2 are sound.
  */
 enum t1mmu_mode { T1MMU_USER = 0, T1MMU_PRIVILEGED = 1, T1MMU_HYPERPRIVILEGED = 2 };
 
@@ -164,8 +181,8 @@ enum t1mmu_attribute { T1MMU_CP = 1, T1MMU_E = 2, T1MMU_IE = 4 };
  * For a cache above the unit: a physical answer with a size code holds for its whole page. Until it is dropped, an access of the same strand,
  * kind and selector, of any allowed size, to an aligned address in the T1MMU_PAGE_BYTES(c) around the one asked for would get the same a and c,
  * and the physical address at its own offset. (specs: Extent) Drop it at any insertion, serve, demap or invalidation on its side, by any
- * strand, and at any write of registers 0 to 5 of its strand: docs/PAPER.md, section 9. Used bits do not see what such a cache answers;
- * nor is it a lookup, so the miss rate is that of what the cache lets through.
+ * strand, and at any write of registers 0 to 5 of its strand: docs/PAPER.md, section 9. What was refused changed nothing, and drops nothing.
+ * Used bits do not see what such a cache answers; nor is it a lookup, so the miss rate is that of what the cache lets through.
  */
 
 enum t1mmu_trap {
@@ -198,7 +215,8 @@ enum t1mmu_fault {
 
 /*
  * Why a command that was taken, or a call of the miss handler, did not act. The first that fails is answered, in the order of the numbers;
- * but the miss handler asks T1MMU_REFUSED_TABLE before T1MMU_REFUSED_ADDRESS. STATE and TABLE are of its two calls alone.
+ * but T1MMU_REFUSED_PERMISSION is asked between _VALUE and _ADDRESS, and the miss handler asks _TABLE before _ADDRESS. _STATE and _TABLE are
+ * of its two calls alone, and these never ask for a permission.
  */
 enum t1mmu_refusal {
     T1MMU_REFUSED_STATE = 1, /* the state is not sound, a wrong length included: what a run stops with */
@@ -212,7 +230,8 @@ enum t1mmu_refusal {
     T1MMU_REFUSED_WORD = 12,
     T1MMU_REFUSED_NO_SLOT = 13,
     T1MMU_REFUSED_TABLE = 14, /* the TSB that is used has not T1MMU_TSB_BYTES(N) bytes */
-    T1MMU_REFUSED_NO_LOOKUP = 15 /* of T1MMU_RATE alone: no lookup of the strand and side since reset */
+    T1MMU_REFUSED_NO_LOOKUP = 15, /* of T1MMU_RATE alone: no lookup of the strand and side since reset */
+    T1MMU_REFUSED_PERMISSION = 16 /* the strand's mode does not permit the command (enum t1mmu_mode), or the call no invalidation */
 };
 
 /* Why a run ended. */
@@ -282,8 +301,14 @@ uint8_t t1mmu_reset(uint64_t *state, size_t words);
  * A state that is not sound, of a wrong length too, stops the run with 1 at once: state and output stay as they are.
  * Output behind the answers keeps its bytes. A sound state is sound after every run. (specs: runOf)
  * Whether the state is sound is asked once a run, at the cost of some two dozen hits: give a run many commands where you can.
+ * Every invalidation is refused: this is the call for bytes that are not the hypervisor's own.
  */
 struct t1mmu_report t1mmu_run(uint64_t *state, size_t words, const uint8_t *input, size_t length, uint8_t *output, size_t room);
+
+/*
+ * The same for a stream of the hypervisor's own: it takes T1MMU_INVALIDATE, too. In all else it is t1mmu_run; a strand's mode counts as there.
+ */
+struct t1mmu_report t1mmu_run_hypervisor(uint64_t *state, size_t words, const uint8_t *input, size_t length, uint8_t *output, size_t room);
 
 /*
  * The miss handler: two calls above the unit, which look for the page of a strand's tag access in the guest's TSBs. The caller lends two

@@ -55,10 +55,15 @@ static int is(struct t1mmu_report r, size_t answered, size_t taken, unsigned sto
     return r.answered == answered && r.taken == taken && r.stop == stop;
 }
 
-static struct t1mmu_report run(void)
-{
-    return t1mmu_run(words(), state.length / 8, input.bytes, input.length, output.bytes, output.length);
-}
+/* The call that is tried: for a guest's stream, or for the hypervisor's. */
+typedef struct t1mmu_report runs(uint64_t *, size_t, const uint8_t *, size_t, uint8_t *, size_t);
+static runs *const calls[] = {t1mmu_run, t1mmu_run_hypervisor};
+#define CALLS (sizeof calls / sizeof *calls)
+static runs *call = t1mmu_run;
+
+static struct t1mmu_report run(void) { return call(words(), state.length / 8, input.bytes, input.length, output.bytes, output.length); }
+
+static int state_kept(void) { return memcmp(state.bytes, before, state.length) == 0; }
 
 /* ---- the printed run of document 01 ---- */
 
@@ -67,7 +72,7 @@ static const uint8_t printed[] = {
     0x01, 0, 4, 0, 0, 0, 0, 0, 0, 0, 3,             /* translation on */
     0x01, 0, 3, 0, 0, 0, 0, 0, 0, 0, 0,             /* mode 0 */
     0x07, 0, 1, 0, 3, 0, 0, 0, 0, 0, 0x40, 0x20, 8, /* a load that misses */
-    0x02, 0, 1, 0, 0x80, 0, 0, 0, 0, 8, 4, 0x40,    /* the insertion */
+    0x02, 0, 1, 0, 0x80, 0, 0, 0, 0, 8, 4, 0x40,    /* the insertion, which mode 0 may not send */
     0x07, 0, 1, 0, 3, 0, 0, 0, 0, 0, 0x40, 0x20, 8, /* the load again */
 };
 /* Where its commands begin and end. */
@@ -80,9 +85,11 @@ static const uint8_t answers[COMMANDS][ANSWER] = {
     {0},
     {0},
     {2, 0x68, 0, 0, 0, 0, 0, 0, 0, 0, 0, 0, 0, 0x40, 0x20, 8, 0, 0, 0, 0, 0, 0x40, 0x20, 0},
-    {0},
-    {1, 1, 0, 0, 0, 0, 0, 0, 0, 0, 0, 0, 0, 8, 0, 8},
+    {5, 16},
+    {2, 0x68, 0, 0, 0, 0, 0, 0, 0, 0, 0, 0, 0, 0x40, 0x20, 8, 0, 0, 0, 0, 0, 0x40, 0x20, 0},
 };
+/* What its load gets where the page is there. */
+static const uint8_t loaded[ANSWER] = {1, 1, 0, 0, 0, 0, 0, 0, 0, 0, 0, 0, 0, 8, 0, 8};
 
 /* Whether the output has the first n answers of the printed run and nothing behind them. */
 static int has_answers(size_t n)
@@ -158,7 +165,7 @@ static void wrong_lengths(int upper)
         expect(all_are(state.bytes, state.length, 0) && has_answers(0), "run on a wrong length changed bytes", (long)wrong[k]);
         expect_guards((long)wrong[k]);
     }
-    expect(is(t1mmu_run(NULL, 0, NULL, 0, NULL, 0), 0, 0, 1), "run of nothing at all", 0);
+    expect(is(call(NULL, 0, NULL, 0, NULL, 0), 0, 0, 1), "run of nothing at all", 0);
 }
 
 static void empty_ranges(int upper)
@@ -166,10 +173,10 @@ static void empty_ranges(int upper)
     place_reset(upper);
     place_input(printed, sizeof printed, upper);
     place_output(2 * ANSWER, upper);
-    expect(is(t1mmu_run(words(), WORDS, NULL, 0, NULL, 0), 0, 0, 0), "null input, null output", upper);
-    expect(is(t1mmu_run(words(), WORDS, NULL, 0, output.bytes, output.length), 0, 0, 0), "null input", upper);
-    expect(is(t1mmu_run(words(), WORDS, input.bytes, 0, NULL, 0), 0, 0, 0), "empty input", upper);
-    expect(is(t1mmu_run(words(), WORDS, input.bytes, input.length, NULL, 0), 0, 0, 4), "null output", upper);
+    expect(is(call(words(), WORDS, NULL, 0, NULL, 0), 0, 0, 0), "null input, null output", upper);
+    expect(is(call(words(), WORDS, NULL, 0, output.bytes, output.length), 0, 0, 0), "null input", upper);
+    expect(is(call(words(), WORDS, input.bytes, 0, NULL, 0), 0, 0, 0), "empty input", upper);
+    expect(is(call(words(), WORDS, input.bytes, input.length, NULL, 0), 0, 0, 4), "null output", upper);
     expect_reset("an empty run changed the state");
     expect(has_answers(0), "an empty run wrote", upper);
     expect_guards(upper);
@@ -219,6 +226,17 @@ static void unknown_commands(int upper)
     }
 }
 
+/* Everything of a stream's bytes and of its room, by the call that is tried. */
+static void stream_lengths(int upper)
+{
+    wrong_lengths(upper);
+    empty_ranges(upper);
+    for (size_t commands = 0; commands <= COMMANDS; commands++)
+        rooms(commands, upper);
+    prefixes(upper);
+    unknown_commands(upper);
+}
+
 /* One word of the reset state set to all ones: sound only in registers 20 to 25, which hold any value. */
 static void unsound_words(void)
 {
@@ -234,16 +252,147 @@ static void unsound_words(void)
     }
 }
 
-/* The printed run leaves its entry in the lowest slot of the data side: owner 0, page, word, the used bit. */
+/* The printed run in mode 1 leaves its entry in the lowest slot of the data side: owner 0, page, word, the used bit. */
 static void inserted(void)
 {
     static const uint64_t slot[T1MMU_SLOT_WORDS] = {0, 0x402000, 0x8000000000080440, 2};
     place_reset(1);
     place_input(printed, sizeof printed, 1);
+    input.bytes[END_2 - 1] = T1MMU_PRIVILEGED;
     place_output(sizeof answers, 1);
-    expect(is(run(), COMMANDS, sizeof printed, 0) && has_answers(COMMANDS), "the printed run", 0);
+    expect(is(run(), COMMANDS, sizeof printed, 0), "the printed run in mode 1", 0);
+    expect(memcmp(output.bytes, answers, 3 * ANSWER) == 0, "its answers up to the insertion", 0);
+    expect(all_are(output.bytes + 3 * ANSWER, ANSWER, 0) && memcmp(output.bytes + 4 * ANSWER, loaded, ANSWER) == 0, "and those behind", 0);
     expect(memcmp(words() + T1MMU_SLOT_AT(T1MMU_DATA, 0), slot, sizeof slot) == 0, "the slot that was filled", 0);
     expect(words()[T1MMU_CELL_AT(0, T1MMU_TRANSLATION)] == 3, "the register that was written", 0);
+}
+
+/* ---- who may command ---- */
+
+/* Strand 1 in a mode, all others in another; an entry on either side, for demaps and invalidations to meet, and a lookup kept. */
+static void place_modes(unsigned mode, unsigned others)
+{
+    place_reset(1);
+    for (unsigned strand = 0; strand < T1MMU_STRANDS; strand++)
+        words()[T1MMU_CELL_AT(strand, T1MMU_MODE)] = strand == 1 ? mode : others;
+    for (unsigned side = 0; side < T1MMU_SIDES; side++) {
+        words()[T1MMU_SLOT_AT(side, 5) + 2] = UINT64_C(0x8000000000080440);
+        words()[T1MMU_SEEN + T1MMU_RECORD_OF(1, side)] = 1;
+    }
+    memcpy(before, state.bytes, state.length);
+}
+
+/* A command whose operands are in order up to number 10, in every mode and by both calls: number 16 below the least mode, and never from it on. */
+static void expect_least(const uint8_t *command, size_t n, unsigned least, long at)
+{
+    for (unsigned mode = 0; mode <= T1MMU_HYPERPRIVILEGED; mode++)
+        for (unsigned others = 0; others <= T1MMU_HYPERPRIVILEGED; others++)
+            for (size_t k = 0; k < CALLS; k++) {
+                call = calls[k];
+                place_modes(mode, others);
+                place_input(command, n, 1);
+                place_output(ANSWER, 1);
+                expect(is(run(), 1, n, 0), "a command in a mode", at);
+                int refused = output.bytes[0] == 5 && output.bytes[1] == 16;
+                expect(refused == (mode < least), "whether a mode may send a command", at);
+                expect(!refused || (state_kept() && all_are(output.bytes + 2, ANSWER - 2, 0)), "what a mode may not send", at);
+                expect_guards(at);
+            }
+    call = t1mmu_run;
+}
+
+/* A command by both calls with strand 1 in mode 0: refused with the number that is asked first, and nothing changes. */
+static void expect_first(const uint8_t *command, size_t n, unsigned number, long at)
+{
+    for (size_t k = 0; k < CALLS; k++) {
+        call = calls[k];
+        place_modes(T1MMU_USER, T1MMU_HYPERPRIVILEGED);
+        for (unsigned side = 0; side < T1MMU_SIDES; side++)
+            words()[T1MMU_CELL_AT(1, T1MMU_TAG_ACCESS + side)] = UINT64_C(1) << 47;
+        memcpy(before, state.bytes, state.length);
+        place_input(command, n, 1);
+        place_output(ANSWER, 1);
+        expect(is(run(), 1, n, 0) && output.bytes[0] == 5 && output.bytes[1] == number, "the number that is asked first", at);
+        expect(state_kept(), "a refused command changed the state", at);
+    }
+    call = t1mmu_run;
+}
+
+/* By document 02: what mode 1 may write, and what no mode may. */
+static int guest_register(unsigned n) { return n == 1 || n == 2 || n == 5 || (8 <= n && n <= 21); }
+static int no_register(unsigned n) { return n == 6 || n == 7 || n > 21; }
+
+static void permissions(void)
+{
+    for (unsigned n = 0; n < 256; n++) {
+        const uint8_t write[T1MMU_WRITE_BYTES] = {T1MMU_WRITE, 1, (uint8_t)n};
+        const uint8_t insert[T1MMU_INSERT_BYTES] = {T1MMU_INSERT, 1, n & 1, (uint8_t)n, 0x80, 0, 0, 0, 0, 8, 4, 0x40};
+        if (no_register(n))
+            expect_first(write, sizeof write, 9, (long)n);
+        else
+            expect_least(write, sizeof write, guest_register(n) ? 1 : 2, (long)n);
+        if (n > (T1MMU_REAL | T1MMU_LOCKED))
+            expect_first(insert, sizeof insert, 8, (long)n);
+        else
+            expect_least(insert, sizeof insert, n == 0 ? 1 : 2, (long)n);
+    }
+    for (uint8_t side = 0; side < T1MMU_SIDES; side++) {
+        for (uint8_t flags = 0; flags <= T1MMU_REAL; flags++)
+            expect_least((const uint8_t[T1MMU_DEMAP_PAGE_BYTES]){T1MMU_DEMAP_PAGE, 1, side, 2, flags}, T1MMU_DEMAP_PAGE_BYTES, 1, side);
+        expect_least((const uint8_t[]){T1MMU_DEMAP_CONTEXT, 1, side, 0}, T1MMU_DEMAP_CONTEXT_BYTES, 1, side);
+        expect_least((const uint8_t[]){T1MMU_DEMAP_ALL, 1, side}, T1MMU_DEMAP_ALL_BYTES, 2, side);
+        expect_least((const uint8_t[]){T1MMU_POINTERS, 1, side}, T1MMU_POINTERS_BYTES, 1, side);
+        expect_least((const uint8_t[]){T1MMU_RATE, 1, side}, T1MMU_RATE_BYTES, 1, side);
+    }
+    for (uint8_t kind = 0; kind <= T1MMU_NONFAULTING_LOAD; kind++)
+        expect_least((const uint8_t[T1MMU_ACCESS_BYTES]){T1MMU_ACCESS, 1, kind, 0, 2}, T1MMU_ACCESS_BYTES, 0, kind);
+    for (uint8_t n = 0; n < T1MMU_REGISTERS; n++)
+        expect_least((const uint8_t[]){T1MMU_READ, 1, n}, T1MMU_READ_BYTES, 0, n);
+}
+
+/* Numbers 5 to 10 come before 16, and 11, 12 and 15 behind it. */
+static void permission_order(void)
+{
+    expect_first((const uint8_t[T1MMU_WRITE_BYTES]){T1MMU_WRITE, 4, 3}, T1MMU_WRITE_BYTES, 5, 1);
+    expect_first((const uint8_t[T1MMU_WRITE_BYTES]){T1MMU_WRITE, 1, 1, 0, 0, 0, 0, 0, 0, 0x23, 0x28}, T1MMU_WRITE_BYTES, 10, 1);
+    expect_first((const uint8_t[T1MMU_INSERT_BYTES]){T1MMU_INSERT, 1, 2, 4}, T1MMU_INSERT_BYTES, 6, 2);
+    expect_first((const uint8_t[T1MMU_INSERT_BYTES]){T1MMU_INSERT, 1, 1, 0}, T1MMU_INSERT_BYTES, 16, 2);
+    expect_first((const uint8_t[T1MMU_DEMAP_PAGE_BYTES]){T1MMU_DEMAP_PAGE, 1, 0, 1, 2}, T1MMU_DEMAP_PAGE_BYTES, 7, 3);
+    expect_first((const uint8_t[T1MMU_DEMAP_PAGE_BYTES]){T1MMU_DEMAP_PAGE, 1, 1, 1, 2}, T1MMU_DEMAP_PAGE_BYTES, 8, 3);
+    expect_first((const uint8_t[T1MMU_DEMAP_PAGE_BYTES]){T1MMU_DEMAP_PAGE, 1, 1, 1, 1, 0, 0, 0x80}, T1MMU_DEMAP_PAGE_BYTES, 16, 3);
+    expect_first((const uint8_t[]){T1MMU_DEMAP_CONTEXT, 1, 1, 3}, T1MMU_DEMAP_CONTEXT_BYTES, 7, 4);
+    for (uint8_t command = T1MMU_POINTERS; command <= T1MMU_RATE; command++) {
+        expect_first((const uint8_t[]){command, 4, 2}, T1MMU_RATE_BYTES, 5, command);
+        expect_first((const uint8_t[]){command, 1, 2}, T1MMU_RATE_BYTES, 6, command);
+    }
+    expect_first((const uint8_t[]){T1MMU_DEMAP_ALL, 1, 2}, T1MMU_DEMAP_ALL_BYTES, 6, 5);
+    place_reset(1);
+    words()[T1MMU_CELL_AT(2, T1MMU_MODE)] = T1MMU_USER;
+    memcpy(before, state.bytes, state.length);
+    place_input((const uint8_t[]){T1MMU_RATE, 2, 1}, T1MMU_RATE_BYTES, 1);
+    place_output(ANSWER, 1);
+    expect(is(run(), 1, T1MMU_RATE_BYTES, 0) && output.bytes[1] == 16 && state_kept(), "16 before 15", 0);
+}
+
+/* An invalidation of each side, in every mode: by the hypervisor's call alone, and number 6 first. */
+static void invalidations(void)
+{
+    for (unsigned mode = 0; mode <= T1MMU_HYPERPRIVILEGED; mode++)
+        for (unsigned byte = 0; byte < 256; byte++)
+            for (size_t k = 0; k < CALLS; k++) {
+                const uint8_t command[] = {T1MMU_INVALIDATE, (uint8_t)byte};
+                unsigned number = byte >= T1MMU_SIDES ? 6 : calls[k] == t1mmu_run ? 16 : 0;
+                call = calls[k];
+                place_modes(mode, mode);
+                place_input(command, sizeof command, 1);
+                place_output(ANSWER, 1);
+                expect(is(run(), 1, sizeof command, 0), "an invalidation", (long)byte);
+                expect(output.bytes[0] == (number == 0 ? 0 : 5) && output.bytes[1] == number, "what it is answered", (long)byte);
+                if (number == 0)
+                    memset(before + T1MMU_SLOT_AT(byte, 0), 0, T1MMU_SLOTS * T1MMU_SLOT_WORDS * 8);
+                expect(state_kept(), "what it changed", (long)byte);
+            }
+    call = t1mmu_run;
 }
 
 /* ---- the miss records ---- */
@@ -418,8 +567,6 @@ static void expect_answer(struct t1mmu_answered a, unsigned kind, unsigned numbe
     expect(a.bytes[0] == kind && a.bytes[1] == number && all_are(a.bytes + 2, ANSWER - 2, 0), what, at);
 }
 
-static int state_kept(void) { return memcmp(state.bytes, before, state.length) == 0; }
-
 static void expect_kept(const char *what, long at)
 {
     expect(state_kept(), what, at);
@@ -496,7 +643,7 @@ static void handler_lengths(int upper)
         expect(memcmp(zero.bytes + ENTRY, fits, ENTRY) == 0 && all_are(zero.bytes, ENTRY, 0), "a table was written", (long)near[k]);
         place_input(printed + END_4, sizeof printed - END_4, upper);
         place_output(ANSWER, upper);
-        expect(is(run(), 1, T1MMU_ACCESS_BYTES, 0) && memcmp(output.bytes, answers[COMMANDS - 1], ANSWER) == 0, "the load again", (long)near[k]);
+        expect(is(run(), 1, T1MMU_ACCESS_BYTES, 0) && memcmp(output.bytes, loaded, ANSWER) == 0, "the load again", (long)near[k]);
     }
 }
 
@@ -612,19 +759,25 @@ int main(void)
     constants();
     for (int upper = 0; upper < 2; upper++) {
         resets(upper);
-        wrong_lengths(upper);
-        empty_ranges(upper);
-        for (size_t commands = 0; commands <= COMMANDS; commands++)
-            rooms(commands, upper);
-        prefixes(upper);
-        unknown_commands(upper);
+        for (size_t k = 0; k < CALLS; k++) {
+            call = calls[k];
+            stream_lengths(upper);
+        }
+        call = t1mmu_run;
         wrong_states(upper);
         handler_operands(upper);
         handler_lengths(upper);
         one_range(upper);
     }
-    unsound_words();
-    inserted();
+    for (size_t k = 0; k < CALLS; k++) {
+        call = calls[k];
+        unsound_words();
+        inserted();
+    }
+    call = t1mmu_run;
+    permissions();
+    permission_order();
+    invalidations();
     rate_operands();
     histories();
     full_records();

@@ -1,7 +1,8 @@
 /*
  * The cache of examples/c/page_cache.h above the unit, on random commands and served misses: whatever it answers, the unit is asked too, on a
- * copy of the state, and has to answer the same 24 bytes. With a rule's number nothing is dropped by that rule, and the cache has to go wrong.
- * Ends with 0 where all agree and pages of every size were met, with 3 where there is no such rule.
+ * copy of the state, and has to answer the same 24 bytes. Commands are a guest's, of which those that its mode does not permit are refused
+ * and drop nothing, or the host's. With a rule's number nothing is dropped by that rule, and the cache has to go wrong.
+ * Ends with 0 where all agree, pages of every size were met and some commands, but not most, were refused; with 3 where there is no such rule.
  *
  *     page_cache STEPS [RULE]
  */
@@ -112,13 +113,28 @@ static int other_command(void)
     return BY_INVALIDATE;
 }
 
-static void run(uint64_t *words, uint8_t *answer)
+static void expect_one(struct t1mmu_report r)
 {
-    struct t1mmu_report r = t1mmu_run(words, T1MMU_STATE_WORDS, command, width, answer, T1MMU_ANSWER_BYTES);
     if (r.answered != 1 || r.taken != width) {
         printf("page_cache: a run that stopped with %u\n", r.stop);
         exit(2);
     }
+}
+
+static void run(uint64_t *words, uint8_t *answer)
+{
+    expect_one(t1mmu_run(words, T1MMU_STATE_WORDS, command, width, answer, T1MMU_ANSWER_BYTES));
+}
+
+/* The strand in mode 2 for this one command; the mode is put back before the next access, so that nothing is dropped for it. */
+static void run_as_host(uint8_t *answer)
+{
+    unsigned strand = command[0] == T1MMU_INVALIDATE ? 0 : command[1];
+    uint64_t *mode = &state[T1MMU_CELL_AT(strand, T1MMU_MODE)], was = *mode;
+    *mode = T1MMU_HYPERPRIVILEGED;
+    expect_one(t1mmu_run_hypervisor(state, T1MMU_STATE_WORDS, command, width, answer, T1MMU_ANSWER_BYTES));
+    if (command[0] != T1MMU_WRITE || command[2] != T1MMU_MODE)
+        *mode = was;
 }
 
 /* Serves a strand's side from a table in which the entry fits. */
@@ -141,7 +157,7 @@ int main(int argc, char **argv)
 {
     long steps = argc > 1 ? atol(argv[1]) : 0;
     int rule = argc > 2 ? atoi(argv[2]) : -1;
-    unsigned long by_cache[8] = {0}, accesses = 0, serves = 0, differ = 0;
+    unsigned long by_cache[8] = {0}, accesses = 0, others = 0, refused = 0, serves = 0, differ = 0;
     if (rule >= RULES)
         return 3;
     if (steps <= 0 || t1mmu_reset(state, T1MMU_STATE_WORDS) != 0)
@@ -150,9 +166,15 @@ int main(int argc, char **argv)
         uint8_t answer[T1MMU_ANSWER_BYTES], asked[T1MMU_ANSWER_BYTES];
         if (draw(100) < 12) {
             int by = other_command();
-            if (by < 0 || by != rule)
+            if (draw(4) != 0)
+                run_as_host(answer);
+            else
+                run(state, answer);
+            others++;
+            if (answer[0] == T1MMU_REFUSED)
+                refused++;
+            else if (by < 0 || by != rule)
                 page_cache_drop(&cache, command);
-            run(state, answer);
             continue;
         }
         unsigned strand = draw(2), kind = draw(5), selector = kind == T1MMU_FETCH ? 0 : draw(3);
@@ -174,7 +196,9 @@ int main(int argc, char **argv)
             serves++;
         }
     }
-    printf("page_cache: %lu accesses, %lu serves; by the cache %lu of 8 KB, %lu of 64 KB, %lu of 4 MB, %lu of 256 MB pages, %lu differ\n",
-           accesses, serves, by_cache[T1MMU_8K], by_cache[T1MMU_64K], by_cache[T1MMU_4M], by_cache[T1MMU_256M], differ);
-    return !by_cache[T1MMU_8K] || !by_cache[T1MMU_64K] || !by_cache[T1MMU_4M] || !by_cache[T1MMU_256M] || differ != 0;
+    printf("page_cache: %lu accesses, %lu other commands, of which %lu refused, %lu serves;", accesses, others, refused, serves);
+    printf(" by the cache %lu of 8 KB, %lu of 64 KB, %lu of 4 MB, %lu of 256 MB pages, %lu differ\n", by_cache[T1MMU_8K], by_cache[T1MMU_64K],
+           by_cache[T1MMU_4M], by_cache[T1MMU_256M], differ);
+    int met = by_cache[T1MMU_8K] && by_cache[T1MMU_64K] && by_cache[T1MMU_4M] && by_cache[T1MMU_256M] && refused > 0 && 2 * refused < others;
+    return !met || differ != 0;
 }

@@ -5,7 +5,7 @@ mod work;
 use std::hint::black_box;
 use std::process::{exit, Command};
 use std::time::Instant;
-use t1mmu::numbers::{cell_at, DATA, TAG_ACCESS};
+use t1mmu::numbers::{cell_at, DATA, REFUSED, REFUSED_PERMISSION, TAG_ACCESS};
 use t1mmu::sys::{t1mmu_hand_back, t1mmu_run, t1mmu_serve, Answered, Part, Report};
 use t1mmu::{ANSWER_BYTES, STATE_WORDS};
 use work::{Calls, Misses, Short, Work};
@@ -14,7 +14,7 @@ use work::{Calls, Misses, Short, Work};
 #[repr(C)]
 #[derive(Clone, Copy)]
 pub struct Plain {
-    run: unsafe extern "C" fn(*mut u64, *const u8, usize, *mut u8, usize) -> Report,
+    run: unsafe extern "C" fn(*mut u64, bool, *const u8, usize, *mut u8, usize) -> Report,
     hand_back: unsafe extern "C" fn(*const u64, u32, u32, usize, usize) -> Part,
     serve: unsafe extern "C" fn(*mut u64, u32, u32, *const u8, usize, *const u8, usize) -> Answered,
 }
@@ -51,15 +51,16 @@ impl Contestant {
         }
     }
 
+    /// Streams are a guest's, which are not marked as the hypervisor's: no work invalidates.
     fn run(&mut self, input: &[u8], output: &mut [u8]) -> Report {
         // SAFETY: every range is that of a slice, and none overlap.
         match self {
             Contestant::Library(s) => unsafe {
                 t1mmu_run(s.as_mut_ptr(), s.len(), input.as_ptr(), input.len(), output.as_mut_ptr(), output.len())
             },
-            Contestant::Rust(unit) => unit.run(input, output),
+            Contestant::Rust(unit) => unit.run(false, input, output),
             Contestant::C(u, plain) => unsafe {
-                (plain.run)(u.as_mut_ptr(), input.as_ptr(), input.len(), output.as_mut_ptr(), output.len())
+                (plain.run)(u.as_mut_ptr(), false, input.as_ptr(), input.len(), output.as_mut_ptr(), output.len())
             },
         }
     }
@@ -185,11 +186,13 @@ fn agree(work: &Work) {
     for _ in 0..2 {
         match work.calls() {
             Calls::Runs(runs) => runs.iter().for_each(|input| {
-                let (report, _) = same("answers", work, &mut all, |c| {
+                let (report, answers) = same("answers", work, &mut all, |c| {
                     let mut output = room(&[work]);
                     (c.run(input, &mut output), output)
                 });
                 assert!(report.stop == 0, "{}: stop {}", work.name, report.stop);
+                let permitted = answers.chunks(ANSWER_BYTES).all(|a| a[..2] != [REFUSED, REFUSED_PERMISSION]);
+                assert!(permitted, "{}: a command that its strand's mode does not permit", work.name);
             }),
             Calls::Serves(kind, misses) => misses.each.iter().for_each(|&(strand, tag)| {
                 all.iter_mut().for_each(|c| c.tag_access(strand, tag));

@@ -120,6 +120,11 @@ fn value_allowed(n: usize, v: u64) -> bool {
     }
 }
 
+/// The least mode that may write a register: 1 for 1, 2, 5 and 8 to 21, and 2 for the others.
+fn least_to_write(n: usize) -> u64 {
+    2 - (0x3F_FF26 >> n & 1)
+}
+
 fn take8(b: &[u8]) -> u64 {
     u64::from_be_bytes(b[..8].try_into().expect("eight bytes"))
 }
@@ -280,6 +285,9 @@ impl Unit {
         if flags > 3 {
             return 8;
         }
+        if self.registers[b[1] as usize][3] < if flags == 0 { 1 } else { 2 } {
+            return 16;
+        }
         self.put(b[1], side, flags, word, out)
     }
 
@@ -298,11 +306,14 @@ impl Unit {
         place(&mut self.sides[side], new, out)
     }
 
-    /// 0 where the command was answered, else its refusal.
-    fn act(&mut self, b: &[u8], out: Out) -> u8 {
+    /// 0 where the command was answered, else its refusal. `hypervisor`: whether the stream is marked as the hypervisor's.
+    fn act(&mut self, hypervisor: bool, b: &[u8], out: Out) -> u8 {
         if b[0] == 6 {
             if b[1] > 1 {
                 return 6;
+            }
+            if !hypervisor {
+                return 16;
             }
             self.sides[b[1] as usize] = [Slot::default(); SLOTS];
             answer(out, [0; 4], 0, 0);
@@ -336,7 +347,11 @@ impl Unit {
         if !value_allowed(n, v) {
             return 10;
         }
-        self.registers[b[1] as usize][n] = v;
+        let r = &mut self.registers[b[1] as usize];
+        if r[3] < least_to_write(n) {
+            return 16;
+        }
+        r[n] = v;
         answer(out, [0; 4], 0, 0);
         0
     }
@@ -349,6 +364,9 @@ impl Unit {
         let r = &self.registers[b[1] as usize];
         let partition = r[0] as u8;
         if b[0] == 5 {
+            if r[3] != 2 {
+                return 16;
+            }
             removal(&mut self.sides[side], out, |s| s.partition == partition && !s.locked);
             return 0;
         }
@@ -357,12 +375,18 @@ impl Unit {
         }
         let context = selected(r, b[3]) as u16;
         if b[0] == 4 {
+            if r[3] == 0 {
+                return 16;
+            }
             removal(&mut self.sides[side], out, |s| s.partition == partition && !s.real && s.context == context);
             return 0;
         }
         let (real, address) = (b[4] == 1, take8(&b[5..]));
         if b[4] > 1 {
             return 8;
+        }
+        if r[3] == 0 {
+            return 16;
         }
         if !in_range(address) {
             return 11;
@@ -379,6 +403,9 @@ impl Unit {
             return 6;
         }
         let r = &self.registers[b[1] as usize];
+        if r[3] == 0 {
+            return 16;
+        }
         let tag = r[20 + side];
         let other = (tag & 0x1FFF != 0) as usize;
         let sizes = r[16 + 2 * side + other];
@@ -391,6 +418,9 @@ impl Unit {
         if b[2] > 1 {
             return 6;
         }
+        if self.registers[b[1] as usize][3] == 0 {
+            return 16;
+        }
         let record = &self.records[b[1] as usize][b[2] as usize];
         if record.seen == 0 {
             return 15;
@@ -400,7 +430,7 @@ impl Unit {
         0
     }
 
-    pub fn run(&mut self, input: &[u8], output: &mut [u8]) -> Report {
+    pub fn run(&mut self, hypervisor: bool, input: &[u8], output: &mut [u8]) -> Report {
         let mut report = Report { answered: 0, taken: 0, stop: 0 };
         if !self.sound() {
             report.stop = 1;
@@ -421,7 +451,7 @@ impl Unit {
                 report.stop = 4;
                 break;
             };
-            let number = self.act(&rest[..WIDTHS[code]], out);
+            let number = self.act(hypervisor, &rest[..WIDTHS[code]], out);
             if number != 0 {
                 answer(out, [5, number, 0, 0], 0, 0);
             }

@@ -253,7 +253,8 @@ fn changes() -> Vec<Work> {
         long("demap page, none there", 1.0, &one, |_| demap_page(0, ABSENT)),
         long("demap page, none there, eight partitions", 1.0, &eight, |i| demap_page(i as u8 % 4, ABSENT)),
         long("demap context, none there", 1.0, &one, |_| vec![DEMAP_CONTEXT, 0, DATA, SECONDARY]),
-        long("demap all, none there", 1.0, &other_partition(&one), |_| vec![DEMAP_ALL, 0, DATA]),
+        // open to mode 2 alone
+        long("demap all, none there", 1.0, &hyperprivileged(&other_partition(&one)), |_| vec![DEMAP_ALL, 0, DATA]),
     ]
 }
 

@@ -4,10 +4,13 @@
  * One answer holds for its whole page: for every aligned address in it, by the same strand, kind and selector. It holds until something is
  * inserted or removed on its side, by whatever strand, or a register from 0 to 5 of its strand is written (docs/PAPER.md, section 9). So:
  *
- *     page_cache_ask(..)       before an access is sent; with 1 it is answered, and is not sent
- *     page_cache_keep(..)      with the unit's answer to an access that was sent
- *     page_cache_drop(..)      with every other command, before it is sent
- *     page_cache_drop_side(..) before a miss is served
+ *     page_cache_ask(..)         before an access is sent; with 1 it is answered, and is not sent
+ *     page_cache_keep(..)        with the unit's answer to an access that was sent
+ *     page_cache_drop(..)        with every other command that was not refused, before the next access
+ *     page_cache_drop_side(..)   before a miss is served
+ *     page_cache_drop_strand(..) where the host writes a register in the state itself, as it does to raise a strand's mode for accesses
+ *
+ * What is refused changes nothing, so a guest that sends what its mode does not permit drops nothing.
  *
  * Addresses are compared as they are given: two of one page are of one page behind the address mask, too. An answer of the cache sets no
  * used bit, so the unit may displace a page that is used through the cache alone; and it is no lookup, so the miss rate is of the rest.
@@ -100,7 +103,7 @@ static void page_cache_drop_strand(struct page_cache *cache, unsigned strand)
             cache->lines[i].live = 0;
 }
 
-/* Drops what a command may change, whether or not it is then refused. */
+/* Drops what a command may have changed. */
 static void page_cache_drop(struct page_cache *cache, const uint8_t *command)
 {
     switch (command[0]) {

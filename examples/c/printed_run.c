@@ -1,6 +1,8 @@
 /*
- * The printed run of document 01, from C: builds its five commands, runs them from reset, and prints each command and its answer in
- * words beside its bytes. The last line begins as the stream program's does: end, commands answered, bytes taken, stop.
+ * Two runs from C, each command and its answer in words beside its bytes. The first is the printed run of document 01, from reset: strand 0
+ * is put into user mode and misses, and may not insert the page. In the second, on the state that the first left, strand 1 does in privileged
+ * mode what strand 0 could not; then both find the page. The last line of a run begins as the stream program's does: end, commands answered,
+ * bytes taken, stop.
  *
  *     rt staticlib t1mmu && gcc -Iinclude -o target/printed_run examples/c/printed_run.c target/staticlib/libt1mmu.a
  */
@@ -91,6 +93,25 @@ static const char *register_name(unsigned number)
     return registers[i].name;
 }
 
+static const char *refusal_name(unsigned number)
+{
+    switch (number) {
+    case T1MMU_REFUSED_STRAND: return "no such strand";
+    case T1MMU_REFUSED_SIDE: return "no such side, or kind of access";
+    case T1MMU_REFUSED_SELECTOR: return "no such selector here";
+    case T1MMU_REFUSED_OPERAND: return "flags or size without a meaning";
+    case T1MMU_REFUSED_REGISTER: return "no such register, or read only";
+    case T1MMU_REFUSED_VALUE: return "not a value of the register";
+    case T1MMU_REFUSED_ADDRESS: return "an address out of range";
+    case T1MMU_REFUSED_WORD: return "not a word of an entry";
+    case T1MMU_REFUSED_NO_SLOT: return "all slots are locked";
+    case T1MMU_REFUSED_NO_LOOKUP: return "no lookup yet";
+    /* an invalidation gets it from t1mmu_run, whatever the modes are */
+    case T1MMU_REFUSED_PERMISSION: return "the strand's mode does not permit it";
+    default: return "no refusal of a run";
+    }
+}
+
 static const char *trap_name(unsigned number)
 {
     switch (number) {
@@ -178,41 +199,67 @@ static void print_answer(const uint8_t *at)
         printf("; tag access: page 0x%" PRIx64 ", context %" PRIu64 "\n", second & ~UINT64_C(0x1fff), second & 0x1fff);
         break;
     case T1MMU_REFUSED:
-        printf("refused, number %u\n", at[1]);
+        printf("refused, number %u: %s\n", at[1], refusal_name(at[1]));
         break;
     default:
-        printf("kind %u, which this run does not have\n", at[0]);
+        printf("kind %u, which these runs do not have\n", at[0]);
         break;
     }
 }
 
-int main(void)
-{
-    static uint64_t state[T1MMU_STATE_WORDS];
-    static uint8_t answers[16 * T1MMU_ANSWER_BYTES];
-    struct stream s = {{0}, 0};
-    struct t1mmu_tte page = {0};
+/* ---- the runs ---- */
 
-    if (t1mmu_version() >> 16 != T1MMU_VERSION >> 16 || t1mmu_reset(state, T1MMU_STATE_WORDS) != 0)
-        return 1;
+/* A load of 8 bytes that misses, which leaves its page and context in tag access; the insertion of that page; and the load again. */
+static void put_miss_and_insert(struct stream *s, unsigned strand)
+{
+    struct t1mmu_tte page = {0};
     page.v = 1;
     page.address = 0x80000 >> 13;
     page.cp = 1;
     page.w = 1;
     page.size = T1MMU_8K;
-    put_write(&s, 0, T1MMU_TRANSLATION, T1MMU_FETCH_ON | T1MMU_DATA_ON);
-    put_write(&s, 0, T1MMU_MODE, T1MMU_USER);
-    put_load(&s, 0, T1MMU_PRIMARY, 3, 0x402008); /* a miss: it leaves address and context in tag access */
-    put_insert(&s, 0, T1MMU_DATA, 0, t1mmu_pack(page));
-    put_load(&s, 0, T1MMU_PRIMARY, 3, 0x402008);
+    put_load(s, strand, T1MMU_PRIMARY, 3, 0x402008);
+    put_insert(s, strand, T1MMU_DATA, 0, t1mmu_pack(page));
+    put_load(s, strand, T1MMU_PRIMARY, 3, 0x402008);
+}
 
-    struct t1mmu_report r = t1mmu_run(state, T1MMU_STATE_WORDS, s.bytes, s.length, answers, sizeof answers);
+/* Translation on, and a mode. A strand may do this in mode 2 alone, which is that of reset. */
+static void put_guest(struct stream *s, unsigned strand, unsigned mode)
+{
+    put_write(s, strand, T1MMU_TRANSLATION, T1MMU_FETCH_ON | T1MMU_DATA_ON);
+    put_write(s, strand, T1MMU_MODE, mode);
+}
+
+/* Runs a stream and prints it; returns whether it ended at its end. */
+static int run_and_print(uint64_t *state, const struct stream *s)
+{
+    static uint8_t answers[16 * T1MMU_ANSWER_BYTES];
+    struct t1mmu_report r = t1mmu_run(state, T1MMU_STATE_WORDS, s->bytes, s->length, answers, sizeof answers);
     size_t at = 0;
     for (size_t i = 0; i < r.answered; i++) {
-        at += print_command(s.bytes + at);
+        at += print_command(s->bytes + at);
         print_answer(answers + i * T1MMU_ANSWER_BYTES);
     }
     int printed = printf("end %zu %zu %u", r.answered, r.taken, r.stop);
     printf("%*s%zu commands answered, %zu bytes taken, %s\n", 2 * T1MMU_ANSWER_BYTES + 4 - printed, "", r.answered, r.taken, stops[r.stop]);
-    return r.stop == T1MMU_END ? 0 : 1;
+    return r.stop == T1MMU_END;
+}
+
+int main(void)
+{
+    static uint64_t state[T1MMU_STATE_WORDS];
+    struct stream user = {{0}, 0}, privileged = {{0}, 0};
+
+    if (t1mmu_version() >> 16 != T1MMU_VERSION >> 16 || t1mmu_reset(state, T1MMU_STATE_WORDS) != 0)
+        return 1;
+    put_guest(&user, 0, T1MMU_USER);
+    put_miss_and_insert(&user, 0);
+    if (!run_and_print(state, &user))
+        return 1;
+
+    printf("\nthe same by strand 1 in privileged mode, and then strand 0's load once more:\n");
+    put_guest(&privileged, 1, T1MMU_PRIVILEGED);
+    put_miss_and_insert(&privileged, 1);
+    put_load(&privileged, 0, T1MMU_PRIMARY, 3, 0x402008);
+    return run_and_print(state, &privileged) ? 0 : 1;
 }

@@ -1,7 +1,7 @@
 /*
- * A fuzz target over t1mmu_run and the miss handler: a state, a stream and a miss behind it are made from the fuzzer's bytes, and what must
- * hold of every run and of every serve is asked of them. The library has no coverage counters of its own, so the fuzzer is guided by what
- * it answers: a counter for each command, kind of answer and number in it, and for each stop.
+ * A fuzz target over the two runs and the miss handler: a state, a stream, whose it is and a miss behind it are made from the fuzzer's bytes,
+ * and what must hold of every run and of every serve is asked of them. The library has no coverage counters of its own, so the fuzzer is
+ * guided by what it answers: a counter for each command, kind of answer and number in it, and for each stop.
  */
 #include "../lent.h"
 
@@ -179,6 +179,14 @@ static uint8_t room_before[MOST_OUTPUT], copied[MOST_OUTPUT], scratch[MOST_INPUT
 
 static uint64_t *words(void) { return (uint64_t *)(void *)state.bytes; }
 
+/* Whether the stream is the hypervisor's; every run of it, and of parts of it, is by the same call. */
+static int hypervisor;
+
+static struct t1mmu_report run(uint64_t *on, size_t n, const uint8_t *in, size_t length, uint8_t *out, size_t room)
+{
+    return hypervisor ? t1mmu_run_hypervisor(on, n, in, length, out, room) : t1mmu_run(on, n, in, length, out, room);
+}
+
 /* The outcomes in the newest word of a record that has seen so many lookups; beyond 1,024 the others are the oldest kept. */
 static unsigned in_newest(uint64_t n) { return n == 0 ? 0 : (unsigned)((n - 1) % 64) + 1; }
 
@@ -199,12 +207,23 @@ static void put_record(struct source *s, unsigned record)
         words()[T1MMU_OLDER + T1MMU_OLDER_WORDS * record + j] = (pattern << j | pattern >> (63 - j)) & most_older(n, j);
 }
 
-/* Strands in any mode, since none looks up in that of reset; and records. */
+/* Two bits a strand: each mode, and privileged twice. No command leaves mode 0 or 1, so that the host has to. */
+static void put_modes(unsigned modes)
+{
+    static const uint8_t mode[4] = {T1MMU_PRIVILEGED, T1MMU_HYPERPRIVILEGED, T1MMU_USER, T1MMU_PRIVILEGED};
+    for (unsigned strand = 0; strand < T1MMU_STRANDS; strand++)
+        words()[T1MMU_CELL_AT(strand, T1MMU_MODE)] = mode[modes >> 2 * strand & 3];
+}
+
+/* Strands in any mode, since none looks up in that of reset, with what mode 0 and 1 may not write; and records. */
 static void put_sound_words(struct source *s)
 {
-    unsigned modes = draw(s), records = draw(s);
-    for (unsigned strand = 0; strand < T1MMU_STRANDS; strand++)
-        words()[T1MMU_CELL_AT(strand, T1MMU_MODE)] = (modes >> 2 * strand & 3) % 3;
+    unsigned modes = draw(s), partitions = draw(s), translation = draw(s), records = draw(s);
+    put_modes(modes);
+    for (unsigned strand = 0; strand < T1MMU_STRANDS; strand++) {
+        words()[T1MMU_CELL_AT(strand, T1MMU_PARTITION)] = partitions >> 2 * strand & 3;
+        words()[T1MMU_CELL_AT(strand, T1MMU_TRANSLATION)] = ~translation >> 2 * strand & 3;
+    }
     for (unsigned record = 0; record < T1MMU_RECORDS; record++)
         if (records >> record & 1)
             put_record(s, record);
@@ -226,7 +245,9 @@ static int make_state(struct source *s, unsigned plan, int upper)
         put_sound_words(s);
         shape(s, &first, draw(s) % 32);
     }
-    HOLDS(t1mmu_run(words(), WORDS, first.bytes, first.length, scratch, sizeof scratch).stop != T1MMU_STOP_UNSOUND);
+    HOLDS(t1mmu_run_hypervisor(words(), WORDS, first.bytes, first.length, scratch, sizeof scratch).stop != T1MMU_STOP_UNSOUND);
+    if (plan != 0 && draw(s) & 1)
+        put_modes(draw(s) & 0xaa); /* modes 0 and 1 alone, so that what follows is confined */
     if (plan != 2)
         return 1;
     for (unsigned n = draw(s) % 8 + 1; n > 0; n--) {
@@ -266,7 +287,8 @@ static void judge_answer(const uint8_t *sent, const uint8_t *a)
     if (a[0] == T1MMU_DISPLACED)
         HOLDS(command == T1MMU_INSERT && a[2] < 8 && a[3] < 2 && a[16] >> 7 == 1);
     if (a[0] == T1MMU_REFUSED)
-        HOLDS((5 <= a[1] && a[1] <= 13) || (a[1] == T1MMU_REFUSED_NO_LOOKUP && command == T1MMU_RATE));
+        HOLDS((5 <= a[1] && a[1] <= 13) || (a[1] == T1MMU_REFUSED_NO_LOOKUP && command == T1MMU_RATE)
+              || (a[1] == T1MMU_REFUSED_PERMISSION && command != T1MMU_ACCESS && command != T1MMU_READ));
     seen[(command * 8u + a[0]) * 128 + ((a[1] ^ a[2] << 1) & 127)] = 1;
 }
 
@@ -327,7 +349,7 @@ static void judge_stop(struct t1mmu_report r, int sound)
     if (r.stop == T1MMU_STOP_UNSOUND)
         HOLDS(r.answered == 0 && r.taken == 0 && memcmp(state.bytes, before, state.length) == 0);
     else
-        HOLDS(t1mmu_run(words(), state.length / 8, NULL, 0, NULL, 0).stop == T1MMU_END);
+        HOLDS(run(words(), state.length / 8, NULL, 0, NULL, 0).stop == T1MMU_END);
     seen[sizeof seen - 8 + r.stop] = 1;
 }
 
@@ -337,20 +359,96 @@ static void judge_again(struct t1mmu_report r, unsigned part)
     size_t n = state.length / 8, half = r.answered * part / 256 * T1MMU_ANSWER_BYTES;
     memcpy(copy, before, state.length);
     memcpy(copied, room_before, output.length);
-    struct t1mmu_report q = t1mmu_run(copy, n, input.bytes, input.length, copied, output.length);
+    struct t1mmu_report q = run(copy, n, input.bytes, input.length, copied, output.length);
     HOLDS(q.answered == r.answered && q.taken == r.taken && q.stop == r.stop);
     HOLDS(memcmp(copy, state.bytes, state.length) == 0 && memcmp(copied, output.bytes, output.length) == 0);
     if (r.stop == T1MMU_STOP_UNSOUND)
         return;
     memcpy(copy, before, state.length);
     memcpy(copied, room_before, output.length);
-    struct t1mmu_report a = t1mmu_run(copy, n, input.bytes, input.length, copied, half);
-    struct t1mmu_report b = t1mmu_run(copy, n, input.bytes + a.taken, input.length - a.taken, copied + half, output.length - half);
+    struct t1mmu_report a = run(copy, n, input.bytes, input.length, copied, half);
+    struct t1mmu_report b = run(copy, n, input.bytes + a.taken, input.length - a.taken, copied + half, output.length - half);
     HOLDS(a.answered + b.answered == r.answered && a.taken + b.taken == r.taken && b.stop == r.stop);
     HOLDS(memcmp(copy, state.bytes, state.length) == 0 && memcmp(copied, output.bytes, output.length) == 0);
 }
 
-/* ---- the miss records, command by command ---- */
+/* ---- who may command ---- */
+
+/* Mode 0 may send only this, mode 1 only this besides. */
+static int open_to_user(const uint8_t *sent) { return sent[0] == T1MMU_ACCESS || sent[0] == T1MMU_READ; }
+
+static int open_to_privileged(const uint8_t *sent)
+{
+    if (sent[0] == T1MMU_WRITE)
+        return sent[2] != T1MMU_PARTITION && sent[2] != T1MMU_MODE && sent[2] != T1MMU_TRANSLATION;
+    return sent[0] == T1MMU_INSERT ? sent[3] == 0 : sent[0] != T1MMU_DEMAP_ALL;
+}
+
+/* Asked of strands that there are alone. */
+static int permitted(const uint64_t *on, const uint8_t *sent)
+{
+    if (sent[0] == T1MMU_INVALIDATE)
+        return hypervisor;
+    uint64_t mode = on[T1MMU_CELL_AT(sent[1], T1MMU_MODE)];
+    return mode == T1MMU_HYPERPRIVILEGED || open_to_user(sent) || (mode == T1MMU_PRIVILEGED && open_to_privileged(sent));
+}
+
+static int names_strand(const uint8_t *sent) { return sent[0] != T1MMU_INVALIDATE && sent[1] < T1MMU_STRANDS; }
+
+/* A command that is not permitted is refused, by number 16 where nothing up to 10 is wrong with it; one that is never gets 16. */
+static void judge_permission(const uint64_t *was, const uint8_t *sent, const uint8_t *a)
+{
+    int refused = a[0] == T1MMU_REFUSED, by_permission = refused && a[1] == T1MMU_REFUSED_PERMISSION;
+    if (sent[0] != T1MMU_INVALIDATE && !names_strand(sent))
+        HOLDS(refused && a[1] == T1MMU_REFUSED_STRAND);
+    else if (permitted(was, sent))
+        HOLDS(!by_permission);
+    else
+        HOLDS(by_permission || (refused && T1MMU_REFUSED_SIDE <= a[1] && a[1] <= T1MMU_REFUSED_VALUE));
+}
+
+/* A bit for each strand that a run's commands name. */
+static unsigned strands_named(size_t taken)
+{
+    unsigned named = 0;
+    for (size_t at = 0; at < taken; at += width[input.bytes[at]])
+        if (names_strand(input.bytes + at))
+            named |= 1u << input.bytes[at + 1];
+    return named;
+}
+
+static int still_there(const uint64_t *entry, unsigned side)
+{
+    for (unsigned slot = 0; slot < T1MMU_SLOTS; slot++) {
+        const uint64_t *now = words() + T1MMU_SLOT_AT(side, slot);
+        if (memcmp(now, entry, 3 * 8) == 0 && (now[3] & 1))
+            return 1;
+    }
+    return 0;
+}
+
+/* A guest's run whose strands are in mode 0 and 1 changes no partition and no mode, and loses no locked entry of another partition. */
+static void judge_confined(struct t1mmu_report r)
+{
+    unsigned named = strands_named(r.taken), partitions = 0;
+    for (unsigned strand = 0; strand < T1MMU_STRANDS; strand++)
+        if (named >> strand & 1) {
+            if (before[T1MMU_CELL_AT(strand, T1MMU_MODE)] == T1MMU_HYPERPRIVILEGED)
+                return;
+            partitions |= 1u << before[T1MMU_CELL_AT(strand, T1MMU_PARTITION)];
+        }
+    for (unsigned strand = 0; strand < T1MMU_STRANDS; strand++) {
+        HOLDS(words()[T1MMU_CELL_AT(strand, T1MMU_PARTITION)] == before[T1MMU_CELL_AT(strand, T1MMU_PARTITION)]);
+        HOLDS(words()[T1MMU_CELL_AT(strand, T1MMU_MODE)] == before[T1MMU_CELL_AT(strand, T1MMU_MODE)]);
+    }
+    for (unsigned i = 0; i < T1MMU_SIDES * T1MMU_SLOTS; i++) {
+        const uint64_t *entry = before + T1MMU_SLOT_AT(0, i);
+        if ((entry[3] & 1) && !(partitions >> (entry[0] >> 14) & 1))
+            HOLDS(still_there(entry, i / T1MMU_SLOTS));
+    }
+}
+
+/* ---- command by command: permissions, and the miss records ---- */
 
 static uint64_t stepped[WORDS];
 
@@ -405,7 +503,7 @@ static void judge_noted(const uint64_t *was, unsigned record, unsigned missed)
         HOLDS(outcome(stepped, record, age + 1) == outcome(was, record, age));
 }
 
-/* A strand and a side that there are: refused where the record is empty, else so many of a thousand. */
+/* A strand and a side that there are, and a mode that may ask: refused where the record is empty, else so many of a thousand. */
 static void judge_rate(unsigned record, const uint8_t *a)
 {
     uint64_t n = kept(stepped[T1MMU_SEEN + record]), misses = 0;
@@ -418,7 +516,7 @@ static void judge_rate(unsigned record, const uint8_t *a)
 }
 
 /* A lookup changes the record of its strand and side, and nothing else changes any. */
-static void judge_step(const uint64_t *was, const uint8_t *sent, const uint8_t *a)
+static void judge_lookup(const uint64_t *was, const uint8_t *sent, const uint8_t *a)
 {
     int looks = sent[0] == T1MMU_ACCESS && a[0] != T1MMU_REFUSED && looked_up(a, was[T1MMU_CELL_AT(sent[1], T1MMU_MODE)]);
     unsigned noted = looks ? (unsigned)T1MMU_RECORD_OF(sent[1], sent[2] != T1MMU_FETCH) : T1MMU_RECORDS;
@@ -429,15 +527,13 @@ static void judge_step(const uint64_t *was, const uint8_t *sent, const uint8_t *
             HOLDS(same_record(was, stepped, record));
     if (sent[0] == T1MMU_RATE)
         HOLDS(a[0] == T1MMU_VALUE || a[0] == T1MMU_REFUSED);
-    if (sent[0] == T1MMU_RATE && sent[1] < T1MMU_STRANDS && sent[2] < T1MMU_SIDES)
+    if (sent[0] == T1MMU_RATE && sent[1] < T1MMU_STRANDS && sent[2] < T1MMU_SIDES && permitted(was, sent))
         judge_rate(T1MMU_RECORD_OF(sent[1], sent[2]), a);
 }
 
 /* The run's commands one by one. */
-static void judge_records(struct t1mmu_report r)
+static void judge_steps(struct t1mmu_report r)
 {
-    if (r.stop == T1MMU_STOP_UNSOUND)
-        return;
     for (unsigned record = 0; record < T1MMU_RECORDS; record++)
         HOLDS(record_sound(before, record));
     memcpy(stepped, before, sizeof stepped);
@@ -445,8 +541,11 @@ static void judge_records(struct t1mmu_report r)
         const uint8_t *sent = input.bytes + at;
         uint8_t answer[T1MMU_ANSWER_BYTES];
         memcpy(copy, stepped, sizeof stepped);
-        HOLDS(t1mmu_run(stepped, WORDS, sent, width[sent[0]], answer, sizeof answer).answered == 1);
-        judge_step(copy, sent, answer);
+        HOLDS(run(stepped, WORDS, sent, width[sent[0]], answer, sizeof answer).answered == 1);
+        judge_permission(copy, sent, answer);
+        if (answer[0] == T1MMU_REFUSED)
+            HOLDS(memcmp(copy, stepped, sizeof stepped) == 0);
+        judge_lookup(copy, sent, answer);
     }
     HOLDS(memcmp(stepped, state.bytes, sizeof stepped) == 0);
 }
@@ -501,25 +600,14 @@ static size_t place_of(const struct miss *m)
     return (tag_of(m) >> shift[code_of(m)]) % (UINT64_C(1) << (9 + n_of(m))) * T1MMU_TSB_ENTRY_BYTES;
 }
 
-static void put_register(const struct miss *m, unsigned number, uint64_t to)
-{
-    put(&first, T1MMU_WRITE);
-    put(&first, m->strand);
-    put(&first, number);
-    put8(&first, to);
-}
-
-/* A small N in both base registers, so that a table can be lent, and any ps0. */
-static void write_tsb(const struct miss *m)
+/* A small N in both base registers, so that a table can be lent, and any ps0; by the host, since mode 0 may not write them. */
+static void put_tsb(const struct miss *m)
 {
     static const unsigned code[4] = {0, 1, 3, 5};
-    unsigned side = m->side & 1u;
-    first.length = 0;
     for (unsigned nonzero = 0; nonzero < 2; nonzero++) {
-        put_register(m, T1MMU_TSB_BASE_OF(side, nonzero, 0), (uint64_t)m->turned << 13 | m->n);
-        put_register(m, T1MMU_TSB_CONFIGURATION_OF(side, nonzero), code[m->length / 32 % 4]);
+        words()[T1MMU_CELL_AT(m->strand, T1MMU_TSB_BASE_OF(m->side, nonzero, 0))] = (uint64_t)m->turned << 13 | m->n;
+        words()[T1MMU_CELL_AT(m->strand, T1MMU_TSB_CONFIGURATION_OF(m->side, nonzero))] = code[m->length / 32 % 4];
     }
-    t1mmu_run(words(), state.length / 8, first.bytes, first.length, scratch, sizeof scratch);
 }
 
 /* Zeros, but for the entry of tag access: its tag and the drawn word of ps0, with one bit turned. */
@@ -577,14 +665,17 @@ static struct t1mmu_answered serve(uint64_t *on, const struct miss *m)
 
 static int is_same(const void *one, const void *two) { return memcmp(one, two, state.length) == 0; }
 
-/* A serve that fits is the insertion by command, and once more it strikes its own entry and takes its slot again. */
+/* A serve that fits is, in any mode, the insertion by command of mode 1; and once more it strikes its own entry and takes its slot again. */
 static void judge_fit(const struct miss *m, const uint8_t *word, struct t1mmu_answered a)
 {
     uint8_t command[T1MMU_INSERT_BYTES] = {T1MMU_INSERT, m->strand, m->side, 0}, answer[T1MMU_ANSWER_BYTES];
     size_t slots = T1MMU_SLOT_AT(0, 0), untouched = T1MMU_SLOT_AT(1 - m->side, 0), side = T1MMU_SLOT_AT(1, 0) - slots;
+    uint64_t *mode = &copy[T1MMU_CELL_AT(m->strand, T1MMU_MODE)];
     memcpy(command + 4, word, 8);
     memcpy(copy, before, state.length);
-    HOLDS(t1mmu_run(copy, WORDS, command, sizeof command, answer, sizeof answer).answered == 1);
+    *mode = T1MMU_PRIVILEGED;
+    HOLDS(run(copy, WORDS, command, sizeof command, answer, sizeof answer).answered == 1);
+    *mode = before[T1MMU_CELL_AT(m->strand, T1MMU_MODE)];
     HOLDS(memcmp(answer, a.bytes, sizeof answer) == 0 && is_same(copy, state.bytes));
     HOLDS(memcmp(words(), before, slots * 8) == 0 && memcmp(words() + untouched, before + untouched, side * 8) == 0);
     HOLDS(memcmp(words() + T1MMU_SEEN, before + T1MMU_SEEN, (WORDS - T1MMU_SEEN) * 8) == 0);
@@ -599,9 +690,11 @@ static void judge_fit(const struct miss *m, const uint8_t *word, struct t1mmu_an
 
 static void judge_miss(const struct miss *m, int upper)
 {
-    write_tsb(m);
-    int sound = t1mmu_run(words(), state.length / 8, NULL, 0, NULL, 0).stop != T1MMU_STOP_UNSOUND;
-    make_tables(m, sound && m->strand < T1MMU_STRANDS && m->side < T1MMU_SIDES, upper);
+    int sound = run(words(), state.length / 8, NULL, 0, NULL, 0).stop != T1MMU_STOP_UNSOUND;
+    int good = sound && m->strand < T1MMU_STRANDS && m->side < T1MMU_SIDES;
+    if (good)
+        put_tsb(m);
+    make_tables(m, good, upper);
     unsigned number = expected_number(m, sound);
     memcpy(before, state.bytes, state.length);
     struct t1mmu_part p = t1mmu_hand_back(words(), state.length / 8, m->strand, m->side, tables[0].bytes, tables[0].length, tables[1].bytes,
@@ -654,15 +747,20 @@ int LLVMFuzzerTestOneInput(const uint8_t *data, size_t size)
     memset(seen, 0, sizeof seen);
     unsigned plan = draw(&s), part = draw(&s);
     struct miss miss = draw_miss(&s);
+    hypervisor = plan >> 4 & 1;
     int sound = make_state(&s, plan & 3, plan >> 2 & 1);
     make_buffers(&s, plan >> 3 & 1, plan >> 2 & 1);
     memcpy(before, state.bytes, state.length);
-    struct t1mmu_report r = t1mmu_run(words(), state.length / 8, input.bytes, input.length, output.bytes, output.length);
+    struct t1mmu_report r = run(words(), state.length / 8, input.bytes, input.length, output.bytes, output.length);
     judge_kept(r);
     judge_stop(r, sound);
     judge_answers(r.answered, r.taken);
     judge_again(r, part);
-    judge_records(r);
+    if (r.stop != T1MMU_STOP_UNSOUND) {
+        judge_steps(r);
+        if (!hypervisor)
+            judge_confined(r);
+    }
     judge_miss(&miss, plan >> 2 & 1);
     return 0;
 }

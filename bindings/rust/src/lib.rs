@@ -114,6 +114,9 @@ impl NoPart {
     }
 }
 
+/// One of the two calls that run a stream.
+type Run = unsafe extern "C" fn(*mut u64, usize, *const u8, usize, *mut u8, usize) -> sys::Report;
+
 /// The state of one core.
 #[derive(Clone, PartialEq, Eq)]
 pub struct Unit {
@@ -142,11 +145,23 @@ impl Unit {
 
     /// Takes command after command from the input and writes an answer of 24 bytes for each; output behind them keeps its bytes.
     /// Soundness is asked once a run, at the cost of some two dozen hits: give a run many commands where you can.
+    ///
+    /// The bytes may be a guest's. The mode of the strand that a command names says what it may do ([`numbers::USER`] and the two behind it),
+    /// and an invalidation is refused. Where every strand named is in mode 0 or 1, no partition and no mode changes, and no locked entry is
+    /// lost whose partition is that of none of these strands. At reset all are in mode 2, so set them first. No command leaves mode 0 or 1
+    /// again: the host does, in the words of the state ([`Unit::words`], [`numbers::cell_at`], [`Unit::from_words`]).
     pub fn run(&mut self, input: &[u8], output: &mut [u8]) -> Report {
+        self.run_by(sys::t1mmu_run, input, output)
+    }
+
+    /// The same for a stream of the hypervisor's own: it takes [`numbers::INVALIDATE`], too. Modes count as in [`Unit::run`].
+    pub fn run_hypervisor(&mut self, input: &[u8], output: &mut [u8]) -> Report {
+        self.run_by(sys::t1mmu_run_hypervisor, input, output)
+    }
+
+    fn run_by(&mut self, call: Run, input: &[u8], output: &mut [u8]) -> Report {
         // SAFETY: three slices, so readable, the mutable ones ours alone, and none overlaps another.
-        let report = unsafe {
-            sys::t1mmu_run(self.words.as_mut_ptr(), self.words.len(), input.as_ptr(), input.len(), output.as_mut_ptr(), output.len())
-        };
+        let report = unsafe { call(self.words.as_mut_ptr(), self.words.len(), input.as_ptr(), input.len(), output.as_mut_ptr(), output.len()) };
         Report { answered: report.answered, taken: report.taken, stop: Stop::of(report.stop) }
     }
 

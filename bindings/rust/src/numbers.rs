@@ -11,7 +11,7 @@ macro_rules! numbers {
 
 numbers! {
     /// The version that this crate is written for: major * 65536 + minor * 256 + patch.
-    VERSION: u32 = 0x03_00_00;
+    VERSION: u32 = 0x04_00_00;
     /// The words of a state.
     STATE_WORDS: usize = 776;
     /// The bytes of an answer.
@@ -48,6 +48,7 @@ numbers! {
     DEMAP_PAGE: u8 = 0x03;
     DEMAP_CONTEXT: u8 = 0x04;
     DEMAP_ALL: u8 = 0x05;
+    /// Of [`crate::Unit::run_hypervisor`] alone.
     INVALIDATE: u8 = 0x06;
     ACCESS: u8 = 0x07;
     READ: u8 = 0x08;
@@ -114,10 +115,14 @@ numbers! {
     /// That of side 0; the next one is side 1's. Read only.
     FAULT_STATUS: u8 = 24;
 
-    // Values of the mode.
+    // Values of the mode; what a mode does not permit gets [`REFUSED_PERMISSION`].
+    /// May send [`ACCESS`] and [`READ`].
     USER: u64 = 0;
+    /// May also [`WRITE`] registers 1, 2, 5 and 8 to 21, [`INSERT`] with flags 0, and send [`DEMAP_PAGE`], [`DEMAP_CONTEXT`], [`POINTERS`] and
+    /// [`RATE`].
     PRIVILEGED: u64 = 1;
-    /// Accesses bypass translation. I/O space, where bit 39 of the address is set, takes no nonfaulting load and no atomic access.
+    /// May send all that names a strand. Accesses bypass translation. I/O space, where bit 39 of the address is set, takes no nonfaulting load
+    /// and no atomic access.
     HYPERPRIVILEGED: u64 = 2;
 
     // Bits of the translation register.
@@ -187,6 +192,8 @@ numbers! {
     REFUSED_TABLE: u8 = 14;
     /// No lookup of the strand and side since reset; of [`RATE`] alone.
     REFUSED_NO_LOOKUP: u8 = 15;
+    /// The strand's mode does not permit the command, or the call no invalidation. Asked between [`REFUSED_VALUE`] and [`REFUSED_ADDRESS`].
+    REFUSED_PERMISSION: u8 = 16;
 
     // Why a run ended; [`crate::Stop`] has them as an enum.
     END: u8 = 0;

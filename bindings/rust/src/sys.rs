@@ -2,7 +2,8 @@
 //!
 //! # Safety
 //!
-//! [`t1mmu_reset`], [`t1mmu_run`], [`t1mmu_hand_back`] and [`t1mmu_serve`] take each range as a pointer and a length. For the whole of a call
+//! [`t1mmu_reset`], [`t1mmu_run`], [`t1mmu_run_hypervisor`], [`t1mmu_hand_back`] and [`t1mmu_serve`] take each range as a pointer and a length.
+//! For the whole of a call
 //! - each range may be read, and state and output be written, by this call alone;
 //! - state, input and output do not overlap, nor does state with a table, and state is aligned as `u64` is;
 //! - a range of length 0 is not touched, so that its pointer may be null.
@@ -44,6 +45,7 @@ extern "C" {
     pub fn t1mmu_state_words() -> usize;
     pub fn t1mmu_reset(state: *mut u64, words: usize) -> u8;
     pub fn t1mmu_run(state: *mut u64, words: usize, input: *const u8, length: usize, output: *mut u8, room: usize) -> Report;
+    pub fn t1mmu_run_hypervisor(state: *mut u64, words: usize, input: *const u8, length: usize, output: *mut u8, room: usize) -> Report;
     pub fn t1mmu_hand_back(
         state: *const u64,
         words: usize,

@@ -1,5 +1,5 @@
 // The examples by commands to the whole unit: commands as bytes, and what the bytes of their answers say.
-// All commands are strand 0's and act on side 1, the data TLB.
+// They act on side 1, the data TLB. All but demap all are strand 0's; that is the host's, whose strand stays in mode 2.
 ghost use mathlib.Core.Path.{_≡_};
 ghost use Prim.Native.Nat.{_+_, _*_};
 ghost use lib.ListN.{length};
@@ -8,6 +8,8 @@ use laws::Found;
 use machine::Slot;
 
 const STRAND: u8 = 0;
+
+const HOST: u8 = 1;
 
 const SIDE: u8 = 1;
 
@@ -87,7 +89,7 @@ fn four(a: u8, b: u8, c: u8, d: u8) -> u64
 // Runs a command and reads its answer. The first value of these examples has no more than four bytes.
 fn answer_to(state: &mut [u64], command: &[u8]) -> Reply {
     let mut output = [0u8; machine::ANSWER_BYTES];
-    stream::run(state, command, &mut output);
+    stream::run(state, command, &mut output, false);
     Reply {
         kind: output[0],
         a: output[1],
@@ -134,7 +136,7 @@ pub fn print_load(state: &mut [u64], context: u64, address: u64) {
 
 // How many entries are live: none is locked, so demap all removes them all, and its answer has the count.
 pub fn print_live(state: &mut [u64]) {
-    let bytes = [DEMAP_ALL, STRAND, SIDE];
+    let bytes = [DEMAP_ALL, HOST, SIDE];
     let reply = answer_to(state, &bytes);
     io::write_all(1, b"  by commands: ");
     io::print_decimal(1, reply.first);

@@ -1,6 +1,7 @@
 -- The bytes of answers: their length, the unit's and the ledger's as one, and what is read back from them. Assumes nothing.
 use Prim.Native.Nat.{ℕ, zero, suc, _+_, _*_, _/_, _%_, _^_, _<_}
 use mathlib.Core.Path.{_≡_, refl}
+use mathlib.Core.Bool.{Bool}
 use mathlib.Core.List.{List, [], _∷_, _++_}
 use native.Mathlib.Omega.{arith}
 use native.Mathlib.Nat.{div-div-eq-div-mul, mod-eq-of-lt, mul-assoc, one-le-pow, pow-suc, zero-lt-suc}
@@ -18,11 +19,11 @@ pub answer-length : (a : Answer) → length (answerBytes a) ≡ 24
 unfolding answerBytes
 answer-length a = refl
 
-pub answers-length : (cs : List Command) (u : State) → length (answersBytes u cs) ≡ length cs * 24
+pub answers-length : (hv : Bool) (cs : List Command) (u : State) → length (answersBytes hv u cs) ≡ length cs * 24
 unfolding answersBytes
-answers-length [] u = refl
-answers-length (c ∷ cs) u =
-    rw (length-append, answer-length) (omega (arith, answers-length cs (step u c .state)))
+answers-length hv [] u = refl
+answers-length hv (c ∷ cs) u =
+    rw (length-append, answer-length) (omega (arith, answers-length hv cs (step hv u c .state)))
 
 -- ---- the unit's bytes are the ledger's
 pub bytes-big-endian : (v : ℕ) → bytes v ≡ bigEndian 8 v

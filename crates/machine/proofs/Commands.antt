@@ -321,31 +321,31 @@ module _ {n : Counts} {u : State} {l : Ledger} (h : Alike n u l) where
       (access-does a s c .bytes ∙ ap (λ (w : Written). w .bytes) (fit-none (earlySteps l a) _ (looks-past l a e)))
 
   -- a command that passed and is no insertion
-  pub does-alike : (c : Command) → verdict u c ≡ Passed → (d : Name) → Plain (view c) → StepAlike n (act u c) (does (slotCount n) l c d)
+  pub does-alike : (hv : Bool) (c : Command) → verdict hv u c ≡ Passed → (d : Name) → Plain (view c) → StepAlike n (act u c) (does (slotCount n) l c d)
   unfolding act does asked allOf pointers
-  does-alike (command.Write strand number value) v d t = record { bytes = write-bytes u strand number value; alike = write-alike h strand number value v }
-  does-alike (command.Insert strand side flags word) v d t = absurd t
-  does-alike (command.DemapPage strand side selector flags address) v d t =
-      let q = passed-asked u (command.DemapPage strand side selector flags address) v in
+  does-alike hv (command.Write strand number value) v d t = record { bytes = write-bytes u strand number value; alike = write-alike h hv strand number value v }
+  does-alike hv (command.Insert strand side flags word) v d t = absurd t
+  does-alike hv (command.DemapPage strand side selector flags address) v d t =
+      let q = passed-asked hv u (command.DemapPage strand side selector flags address) v in
       demap-does side _ _ (search conj) (page-same strand selector flags address (search conj) (search conj) (search conj))
-  does-alike (command.DemapContext strand side selector) v d t =
-      let q = passed-asked u (command.DemapContext strand side selector) v in
+  does-alike hv (command.DemapContext strand side selector) v d t =
+      let q = passed-asked hv u (command.DemapContext strand side selector) v in
       demap-does side _ _ (search conj) (context-same strand selector (search conj) (search conj))
-  does-alike (command.DemapAll strand side) v d t =
-      let q = passed-asked u (command.DemapAll strand side) v in
+  does-alike hv (command.DemapAll strand side) v d t =
+      let q = passed-asked hv u (command.DemapAll strand side) v in
       let s : strand < 4 = search conj in
       demap-does side _ _ (search conj) (rw (h .registers strand 0 s (omega arith)) (partition-test (partition (u .registers) strand)))
-  does-alike (command.Invalidate side) v d t =
-      let q = passed-asked u (command.Invalidate side) v in
+  does-alike hv (command.Invalidate side) v d t =
+      let q = passed-asked hv u (command.Invalidate side) v in
       let b : side < 2 = search conj in
       record { bytes = done-bytes 0; alike = alike-with-side side b h (alike-emptied (alike-side side b h)) }
-  does-alike (command.Access strand kind selector size address) v d t =
-      let q = passed-asked u (command.Access strand kind selector size address) v in
+  does-alike hv (command.Access strand kind selector size address) v d t =
+      let q = passed-asked hv u (command.Access strand kind selector size address) v in
       let s : strand < 4 = search conj in
       rw (← (used-alike h strand address s)) (access-does _ s (search conj))
-  does-alike (command.Read strand number) v d t = record { bytes = read-bytes h strand number v; alike = h }
-  does-alike (command.Pointers strand side) v d t = record { bytes = pointers-bytes h strand side v; alike = h }
-  does-alike (command.Rate strand side) v d t = record { bytes = rate-bytes h strand side v; alike = h }
+  does-alike hv (command.Read strand number) v d t = record { bytes = read-bytes h hv strand number v; alike = h }
+  does-alike hv (command.Pointers strand side) v d t = record { bytes = pointers-bytes h hv strand side v; alike = h }
+  does-alike hv (command.Rate strand side) v d t = record { bytes = rate-bytes h hv strand side v; alike = h }
 
 -- ---- and its places
 same-side : (u : State) (side : ℕ) → SameSlots u (withSide u side (sideOf u side))
@@ -386,27 +386,27 @@ module _ {n : Counts} {u : State} {k : Reference} (h : ReferenceAlike n u k) whe
       go (looks p past) = rw (p, none-passes (λ q. q .0) (earlySteps l a), past) (found-places a s c)
       go (ends any z f) = rw (none-passes (λ q. q .0) (earlySteps l a), any) (places-same _ (h .places) z)
 
-  pub does-places : (c : Command) → verdict u c ≡ Passed → Plain (view c) → PlacesAlike (act u c .state) (moved (slotCount n) k c)
+  pub does-places : (hv : Bool) (c : Command) → verdict hv u c ≡ Passed → Plain (view c) → PlacesAlike (act u c .state) (moved (slotCount n) k c)
   unfolding act moved asked allOf
-  does-places (command.Write strand number value) v t = places-same _ (h .places) (refl, refl)
-  does-places (command.Insert strand side flags word) v t = absurd t
-  does-places (command.DemapPage strand side selector flags address) v t =
-      let q = passed-asked u (command.DemapPage strand side selector flags address) v in
+  does-places hv (command.Write strand number value) v t = places-same _ (h .places) (refl, refl)
+  does-places hv (command.Insert strand side flags word) v t = absurd t
+  does-places hv (command.DemapPage strand side selector flags address) v t =
+      let q = passed-asked hv u (command.DemapPage strand side selector flags address) v in
       demap-places side _ _ (search conj) (page-same (h .ledger) strand selector flags address (search conj) (search conj) (search conj))
-  does-places (command.DemapContext strand side selector) v t =
-      let q = passed-asked u (command.DemapContext strand side selector) v in
+  does-places hv (command.DemapContext strand side selector) v t =
+      let q = passed-asked hv u (command.DemapContext strand side selector) v in
       demap-places side _ _ (search conj) (context-same (h .ledger) strand selector (search conj) (search conj))
-  does-places (command.DemapAll strand side) v t =
-      let q = passed-asked u (command.DemapAll strand side) v in
+  does-places hv (command.DemapAll strand side) v t =
+      let q = passed-asked hv u (command.DemapAll strand side) v in
       let s : strand < 4 = search conj in
       demap-places side _ _ (search conj) (rw (h .ledger .registers strand 0 s (omega arith)) (partition-test (partition (u .registers) strand)))
-  does-places (command.Invalidate side) v t =
-      let q = passed-asked u (command.Invalidate side) v in
+  does-places hv (command.Invalidate side) v t =
+      let q = passed-asked hv u (command.Invalidate side) v in
       demap-places side removal.Everything (λ _. true) (search conj) everything-test
-  does-places (command.Access strand kind selector size address) v t =
-      let q = passed-asked u (command.Access strand kind selector size address) v in
+  does-places hv (command.Access strand kind selector size address) v t =
+      let q = passed-asked hv u (command.Access strand kind selector size address) v in
       let s : strand < 4 = search conj in
       rw (← (used-alike (h .ledger) strand address s)) (access-places _ s (search conj))
-  does-places (command.Read strand number) v t = h .places
-  does-places (command.Pointers strand side) v t = h .places
-  does-places (command.Rate strand side) v t = h .places
+  does-places hv (command.Read strand number) v t = h .places
+  does-places hv (command.Pointers strand side) v t = h .places
+  does-places hv (command.Rate strand side) v t = h .places

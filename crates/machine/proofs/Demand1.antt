@@ -1,7 +1,7 @@
 -- Demand 1 is met. Assumes nothing.
 use Prim.Native.Nat.{ℕ, _≤_}
 use mathlib.Core.Path.{_≡_, refl, sym, _∙_}
-use mathlib.Core.Bool.{true, false, not}
+use mathlib.Core.Bool.{Bool, true, false, not}
 use mathlib.Core.List.{List}
 use native.Mathlib.Omega.{arith}
 use lib.Dec.{eqb}
@@ -76,26 +76,26 @@ insert-kind u strand side flags word i h =
     let new = insertion u strand side flags word in
     placed-kind (placed candidate new (sideOf u side)) (sym (slot-had candidate new (sideOf u side)) ∙ i .slot) h
 
-passed-kind : (u : State) (c : Command) → verdict u c ≡ verdicts.Passed → 5 ≤ getD (answerBytes (act u c .answer)) 0 0 → ⊥
+passed-kind : (hv : Bool) (u : State) (c : Command) → verdict hv u c ≡ verdicts.Passed → 5 ≤ getD (answerBytes (act u c .answer)) 0 0 → ⊥
 unfolding answerBytes act asked allOf
-passed-kind u (command.Write strand number value) v h = omega arith
-passed-kind u (command.Insert strand side flags word) v h =
-    insert-kind u strand side flags word (insert-insertable u strand side flags word v .2) h
-passed-kind u (command.DemapPage strand side selector flags address) v h = omega arith
-passed-kind u (command.DemapContext strand side selector) v h = omega arith
-passed-kind u (command.DemapAll strand side) v h = omega arith
-passed-kind u (command.Invalidate side) v h = omega arith
-passed-kind u (command.Access strand kind selector size address) v h = settled-kind u _ (prepare (u .registers) _) h
-passed-kind u (command.Read strand number) v h = omega arith
-passed-kind u (command.Pointers strand side) v h = omega arith
-passed-kind u (command.Rate strand side) v h = omega arith
+passed-kind hv u (command.Write strand number value) v h = omega arith
+passed-kind hv u (command.Insert strand side flags word) v h =
+    insert-kind u strand side flags word (insert-insertable hv u strand side flags word v .2) h
+passed-kind hv u (command.DemapPage strand side selector flags address) v h = omega arith
+passed-kind hv u (command.DemapContext strand side selector) v h = omega arith
+passed-kind hv u (command.DemapAll strand side) v h = omega arith
+passed-kind hv u (command.Invalidate side) v h = omega arith
+passed-kind hv u (command.Access strand kind selector size address) v h = settled-kind u _ (prepare (u .registers) _) h
+passed-kind hv u (command.Read strand number) v h = omega arith
+passed-kind hv u (command.Pointers strand side) v h = omega arith
+passed-kind hv u (command.Rate strand side) v h = omega arith
 
-refusal-leaves : (u : State) (c : Command) → getD (answerBytes (step u c .answer)) 0 0 ≡ 5 → step u c .state ≡ u
+refusal-leaves : (hv : Bool) (u : State) (c : Command) → getD (answerBytes (step hv u c .answer)) 0 0 ≡ 5 → step hv u c .state ≡ u
 unfolding step
-refusal-leaves u c = go (verdict u c) refl
+refusal-leaves hv u c = go (verdict hv u c) refl
   where
-    go : (v : Verdict) → verdict u c ≡ v → getD (answerBytes (stepBy v u c .answer)) 0 0 ≡ 5 → stepBy v u c .state ≡ u
-    go verdicts.Passed e h = absurd (passed-kind u c e (omega arith))
+    go : (v : Verdict) → verdict hv u c ≡ v → getD (answerBytes (stepBy v u c .answer)) 0 0 ≡ 5 → stepBy v u c .state ≡ u
+    go verdicts.Passed e h = absurd (passed-kind hv u c e (omega arith))
     go (verdicts.Refused r) e h = refl
 
 -- ---- a served miss
@@ -116,14 +116,15 @@ miss-leaves u strand side (refuses r) h = refl
 miss-leaves u strand side lacks h = refl
 miss-leaves u strand side (inserts word s d) h = inserted-leaves u strand side word h
 
-number-told : (n : Counts) (k : Reference) → ReferenceGood (slotCount n) k → (c : Command) → (firstNo (questions (k .ledger) c) ≡ 0 → ⊥)
-    → unitBytes (stateOf n (referenceWords k)) c ≡ line 5 (firstNo (questions (k .ledger) c)) 0 0 0 0
+number-told : (hv : Bool) (n : Counts) (k : Reference) → ReferenceGood (slotCount n) k → (c : Command)
+    → (firstNo (questions hv (k .ledger) c) ≡ 0 → ⊥)
+    → unitBytes hv (stateOf n (referenceWords k)) c ≡ line 5 (firstNo (questions hv (k .ledger) c)) 0 0 0 0
 unfolding enters
-number-told n k g c e =
+number-told hv n k g c e =
     let h = good-alike n k g in
     let back : stateOf n (encode (stateFor n k g)) ≡ stateFor n k g = sound-encode n _ (alike-sound n _ (k .ledger) (h .ledger)) in
-    let t : eqb (firstNo (questions (k .ledger) c)) 0 ≡ false = ne-eqb _ 0 e in
-    rw (← (alike-words h), back) (sym (rw t at (step-says n (stateFor n k g) k c h .bytes)))
+    let t : eqb (firstNo (questions hv (k .ledger) c)) 0 ≡ false = ne-eqb _ 0 e in
+    rw (← (alike-words h), back) (sym (rw t at (step-says hv n (stateFor n k g) k c h .bytes)))
 
 unsound-served : (n : Counts) (words : List ℕ) (strand side : ℕ) (ofZero ofOther : Bytes) → wordsSound n words ≡ false
     → servedOf n words strand side ofZero ofOther ≡ record { words = words; answer = answer.Unsound }
@@ -132,10 +133,10 @@ unsound-served n words strand side ofZero ofOther e = rw e
 
 pub demand1 : Demand1
 demand1 = record {
-  unsound = λ n words input output f. run-unsound n words input output (unsound-words n words f);
+  unsound = λ hv n words input output f. run-unsound hv n words input output (unsound-words n words f);
   refused = refusal-leaves;
   numbered = number-told;
   missUnsound = λ n words strand side ofZero ofOther f. unsound-served n words strand side ofZero ofOther (unsound-words n words f);
   missRefused = λ n u strand side ofZero ofOther s. miss-leaves u strand side (miss-alike (state-alike n u s .ledger) strand side ofZero ofOther);
-  past = λ n words input output. by-test _ (run-past n words input output) (λ e. rw (run-unsound n words input output e));
+  past = λ hv n words input output. by-test _ (run-past hv n words input output) (λ e. rw (run-unsound hv n words input output e));
 }

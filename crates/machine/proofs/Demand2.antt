@@ -147,9 +147,10 @@ act-below n u (command.Read strand number) t h e = no-address refl e
 act-below n u (command.Pointers strand side) t h e = no-address refl e
 act-below n u (command.Rate strand side) t h e = no-address refl e
 
-step-below : (n : Counts) (u : State) (c : Command) (t : Translation) → sound n u ≡ true → step u c .answer ≡ answer.Physical t → t .address .0 < 2 ^ 40
+step-below : (hv : Bool) (n : Counts) (u : State) (c : Command) (t : Translation) → sound n u ≡ true → step hv u c .answer ≡ answer.Physical t
+    → t .address .0 < 2 ^ 40
 unfolding step
-step-below n u c t h = go (verdict u c)
+step-below hv n u c t h = go (verdict hv u c)
   where
     go : (v : Verdict) → stepBy v u c .answer ≡ answer.Physical t → t .address .0 < 2 ^ 40
     go Passed e = act-below n u c t h e

@@ -17,6 +17,7 @@ use Rattle.machine.specs.Slots.{noSlot, isLive}
 use Rattle.machine.specs.Insertion.{candidate, hasSlot, placed}
 use Rattle.machine.specs.Sound.{slotSound}
 use Rattle.machine.specs.Registers.{registerWords}
+use Rattle.machine.specs.Permission.{permitted}
 use Rattle.machine.specs.Questions.{flagLocked, insertion, askedInsertion, asked, ask, verdict}
 use Rattle.machine.specs.Step.{placedAnswer, act, stepBy, step, insertStep}
 use Rattle.machine.specs.Access.{Stepped}
@@ -24,7 +25,7 @@ use Rattle.machine.specs.Stream.{Bytes, Taken, answerBytes, after, answe
 use Rattle.machine.specs.Serve.{servedOf}
 use Rattle.machine.specs.Serve as unit
 use Rattle.machine.specs.Ledger.{Ledger, line, Written, Name, nameIn, addressGood, wordGood, tagOf, newEntry, firstNo}
-use Rattle.machine.specs.Ledger.{insertionQuestions, questions, lacksSlot, does, enters, entersInsertion, Miss, miss}
+use Rattle.machine.specs.Ledger.{insertionQuestions, modeAllows, questions, lacksSlot, does, enters, entersInsertion, Miss, miss}
 use Rattle.machine.specs.Ledger as ledger
 use Rattle.machine.specs.Demand3.{unitBytes, fed, fedNext, fedAfter, ledgerBytes, InsertionSays, Says, SaysOf, CommandsSay}
 use Rattle.machine.specs.Demand3.{RunSays, ServeSays, Event, run, serve, EventSays, EventsSay, Demand3}
@@ -52,7 +53,7 @@ use Rattle.machine.proofs.Used.{new-used}
 use Rattle.machine.proofs.Places.{inserted-side, places-with, side-words}
 use Rattle.machine.proofs.Sides.{alike-empty, alike-lacks}
 use Rattle.machine.proofs.Questions.{verdictNumber, same-number, number-passed, number-refused, slotLeft, insertion-number}
-use Rattle.machine.proofs.Questions.{refused-alike, passed-alike, refused-bytes, reset-alike, tag-address}
+use Rattle.machine.proofs.Questions.{refused-alike, passed-alike, refused-bytes, reset-alike, allows, tag-address}
 use Rattle.machine.proofs.Questions.{address-good, word-good, word-insertable, insertion-entry}
 use Rattle.machine.proofs.Bytes.{line-answer}
 use Rattle.machine.proofs.Misses.{MissAlike, refuses, lacks, inserts, miss-alike}
@@ -63,20 +64,21 @@ ruleset conj = (and-left, and-right, ltb-true)
 
 -- ---- one command
 -- the bytes agree, what is said of insertions and accesses holds, and the two stay alike
-pub record StepSays (n : Counts) (u : State) (k : Reference) (c : Command) : Type 0 where
-  pub bytes : fed n u k c .bytes ≡ unitBytes u c
-  pub says : Says n k c (unitBytes u c)
-  pub alike : ReferenceAlike n (step u c .state) (fedNext n u k c)
+pub record StepSays (hv : Bool) (n : Counts) (u : State) (k : Reference) (c : Command) : Type 0 where
+  pub bytes : fed hv n u k c .bytes ≡ unitBytes hv u c
+  pub says : Says hv n k c (unitBytes hv u c)
+  pub alike : ReferenceAlike n (step hv u c .state) (fedNext hv n u k c)
 
-step-refused : (n : Counts) (u : State) (k : Reference) (c : Command) → ReferenceAlike n u k → (firstNo (questions (k .ledger) c) ≡ 0 → ⊥) → StepSays n u k c
+step-refused : (hv : Bool) (n : Counts) (u : State) (k : Reference) (c : Command) → ReferenceAlike n u k
+    → (firstNo (questions hv (k .ledger) c) ≡ 0 → ⊥) → StepSays hv n u k c
 unfolding step enters placesAfter
-step-refused n u k c h e = go (verdict u c) (refused-alike (h .ledger) c e)
+step-refused hv n u k c h e = go (verdict hv u c) (refused-alike (h .ledger) hv c e)
   where
-    go : (v : Verdict) → verdictNumber v ≡ firstNo (questions (k .ledger) c) → StepSays n u k c
+    go : (v : Verdict) → verdictNumber v ≡ firstNo (questions hv (k .ledger) c) → StepSays hv n u k c
     go Passed f = absurd (e (sym f))
     go (Refused r) f =
-        let v : verdict u c ≡ Refused r = same-number (verdict u c) (Refused r) (refused-alike (h .ledger) c e ∙ sym f) in
-        let t : eqb (firstNo (questions (k .ledger) c)) 0 ≡ false = ne-eqb _ 0 e in
+        let v : verdict hv u c ≡ Refused r = same-number (verdict hv u c) (Refused r) (refused-alike (h .ledger) hv c e ∙ sym f) in
+        let t : eqb (firstNo (questions hv (k .ledger) c)) 0 ≡ false = ne-eqb _ 0 e in
         record {
           bytes = rw (v, t) (ap (λ (i : ℕ). line 5 i 0 0 0 0) (sym f) ∙ sym (refused-bytes r));
           says = λ f. absurd (e f);
@@ -84,39 +86,40 @@ step-refused n u k c h e = go (verdict u c) (refused-alike (h .ledger) c e)
         }
 
 -- ---- a command that no question refused: the unit acts, and the ledger does
-passed : {n : Counts} {u : State} {l : Ledger} → Alike n u l → (c : Command) → slotLeft u c ≡ true → firstNo (questions l c) ≡ 0 → verdict u c ≡ Passed
-passed {u} h c f e = number-passed (verdict u c) (passed-alike h c e ∙ rw f)
+passed : {n : Counts} {u : State} {l : Ledger} → Alike n u l → (hv : Bool) (c : Command) → slotLeft u c ≡ true → firstNo (questions hv l c) ≡ 0
+    → verdict hv u c ≡ Passed
+passed {u} h hv c f e = number-passed (verdict hv u c) (passed-alike h hv c e ∙ rw f)
 
-step-passed : {n : Counts} {u : State} {k : Reference} (c : Command) → verdict u c ≡ Passed → firstNo (questions (k .ledger) c) ≡ 0
-    → StepAlike n (act u c) (does (slotCount n) (k .ledger) c (nameIn (unitBytes u c))) → PlacesAlike (act u c .state) (moved (slotCount n) k c)
-    → SaysOf n k (view c) (unitBytes u c) → StepSays n u k c
+step-passed : {n : Counts} {u : State} {k : Reference} (hv : Bool) (c : Command) → verdict hv u c ≡ Passed → firstNo (questions hv (k .ledger) c) ≡ 0
+    → StepAlike n (act u c) (does (slotCount n) (k .ledger) c (nameIn (unitBytes hv u c))) → PlacesAlike (act u c .state) (moved (slotCount n) k c)
+    → SaysOf n k (view c) (unitBytes hv u c) → StepSays hv n u k c
 unfolding step enters placesAfter
-step-passed c v e s p y = record {
+step-passed hv c v e s p y = record {
   bytes = rw (v, e) (sym (rw v at (s .bytes)));
   says = λ _. y;
   alike = record { ledger = rw (v, e) (rw v at (s .alike)); places = rw (v, e) p };
 }
 
 -- what is said of one that is no insertion
-says-passed : {n : Counts} {u : State} {k : Reference} → ReferenceAlike n u k → (c : Command) → Plain (view c) → verdict u c ≡ Passed
+says-passed : {n : Counts} {u : State} {k : Reference} → ReferenceAlike n u k → (hv : Bool) (c : Command) → Plain (view c) → verdict hv u c ≡ Passed
     → SaysOf n k (view c) (answerBytes (act u c .answer))
 unfolding act asked allOf
-says-passed {u} h =
+says-passed {u} h hv =
     by-view (λ strand side flags word t v. absurd t) (λ strand kind selector size address t v.
-    let q = passed-asked u (command.Access strand kind selector size address) v in
+    let q = passed-asked hv u (command.Access strand kind selector size address) v in
     let s : strand < 4 = search conj in
     rw (← (used-alike (h .ledger) strand address s)) (access-told (h .ledger) _ s (search conj))) (λ c e t v. rw e tt)
 
 -- one that passed and is no insertion
-step-plain : {n : Counts} {u : State} {k : Reference} → ReferenceAlike n u k → (c : Command) → Plain (view c) → slotLeft u c ≡ true
-    → firstNo (questions (k .ledger) c) ≡ 0 → StepSays n u k c
+step-plain : {n : Counts} {u : State} {k : Reference} → ReferenceAlike n u k → (hv : Bool) (c : Command) → Plain (view c) → slotLeft u c ≡ true
+    → firstNo (questions hv (k .ledger) c) ≡ 0 → StepSays hv n u k c
 unfolding step
-step-plain {u} h c t f e =
-    let v = passed (h .ledger) c f e in
-    step-passed c v e (does-alike (h .ledger) c v _ t) (does-places h c v t) (rw v (says-passed h c t v))
+step-plain {u} h hv c t f e =
+    let v = passed (h .ledger) hv c f e in
+    step-passed hv c v e (does-alike (h .ledger) hv c v _ t) (does-places h hv c v t) (rw v (says-passed h hv c t v))
 
 -- ---- an insertion from 11 on: a command's, or that of a served miss
-first-fine : (k : ℕ) (b : Bool) (qs : List (ℕ × Bool)) → (k ≡ 0 → ⊥) → firstNo ((k, b) ∷ qs) ≡ 0 → (b ≡ true) × (firstNo qs ≡ 0)
+pub first-fine : (k : ℕ) (b : Bool) (qs : List (ℕ × Bool)) → (k ≡ 0 → ⊥) → firstNo ((k, b) ∷ qs) ≡ 0 → (b ≡ true) × (firstNo qs ≡ 0)
 unfolding firstNo
 first-fine k true qs z e = (refl, e)
 first-fine k false qs z e = absurd (z e)
@@ -253,52 +256,55 @@ module _ {n : Counts} {u : State} {k : Reference} (a : ReferenceAlike n u k) (st
   insert-says : InsertSays n k strand side flags word (answerBytes (insertStep u strand side flags word .answer)) (insertStep u strand side flags word .state)
   insert-says = by-test (eqb number 0) (λ t. is-inserted (eqb-true number 0 t)) (λ t. not-inserted (eqb-false number 0 t))
 
-  -- a command that 5, 6 and 8 do not refuse comes to it, in the unit, the ledger and the places
+  -- a command that 5, 6, 8 and 16 do not refuse comes to it, in the unit, the ledger and the places
   abbrev c : Command
   c = command.Insert strand side flags word
 
-  same-step : step u c ≡ insertStep u strand side flags word
-  unfolding step verdict asked ask insertStep
-  same-step = rw (lt-ltb strand 4 s, lt-ltb side 2 d, lt-ltb flags 4 f)
+  module _ (hv : Bool) (m : modeAllows l strand (eqb flags 0) ≡ true) where
+    same-step : step hv u c ≡ insertStep u strand side flags word
+    unfolding step verdict asked permitted ask insertStep
+    same-step = rw (lt-ltb strand 4 s, lt-ltb side 2 d, lt-ltb flags 4 f, sym (allows h strand s refl) ∙ m)
 
-  same-first : firstNo (questions l c) ≡ number
-  unfolding questions firstNo
-  same-first = rw (le-leb strand 3 (omega arith), le-leb side 1 (omega arith), le-leb flags 3 (omega arith))
+    same-first : firstNo (questions hv l c) ≡ number
+    unfolding questions firstNo
+    same-first = rw (le-leb strand 3 (omega arith), le-leb side 1 (omega arith), le-leb flags 3 (omega arith), m)
 
-  same-enters : (x : Name) → enters (slotCount n) l c x ≡ entersInsertion (slotCount n) l strand side flags word x
-  unfolding enters does entersInsertion
-  same-enters x = rw same-first
+    same-enters : (x : Name) → enters hv (slotCount n) l c x ≡ entersInsertion (slotCount n) l strand side flags word x
+    unfolding enters does entersInsertion
+    same-enters x = rw same-first
 
-  same-places : placesAfter (slotCount n) k c ≡ placesInserted (slotCount n) k strand side flags word
-  unfolding placesAfter placesInserted
-  same-places = rw same-first
+    same-places : placesAfter hv (slotCount n) k c ≡ placesInserted (slotCount n) k strand side flags word
+    unfolding placesAfter placesInserted
+    same-places = rw same-first
 
-  step-insert : StepSays n u k c
-  step-insert = record {
-    bytes = rw (same-step, same-enters) (insert-says .bytes);
-    says = λ e. rw same-step (insert-says .says (sym same-first ∙ e));
-    alike = rw (same-step, same-enters, same-places) (insert-says .alike);
-  }
+    step-insert : StepSays hv n u k c
+    step-insert = record {
+      bytes = rw (same-step, same-enters) (insert-says .bytes);
+      says = λ e. rw same-step (insert-says .says (sym same-first ∙ e));
+      alike = rw (same-step, same-enters, same-places) (insert-says .alike);
+    }
 
-asked-8 : (l : Ledger) (strand side flags word : ℕ) → firstNo (questions l (command.Insert strand side flags word)) ≡ 0
-    → (strand < 4) × (side < 2) × (flags < 4)
+asked-16 : (hv : Bool) (l : Ledger) (strand side flags word : ℕ) → firstNo (questions hv l (command.Insert strand side flags word)) ≡ 0
+    → (strand < 4) × (side < 2) × (flags < 4) × (modeAllows l strand (eqb flags 0) ≡ true)
 unfolding questions
-asked-8 l strand side flags word e =
+asked-16 hv l strand side flags word e =
     let a = first-fine 5 _ _ (λ z. omega arith) e in
     let b = first-fine 6 _ _ (λ z. omega arith) (a .1) in
     let c = first-fine 8 _ _ (λ z. omega arith) (b .1) in
-    (omega (arith, leb-true strand 3 (a .0)), omega (arith, leb-true side 1 (b .0)), omega (arith, leb-true flags 3 (c .0)))
+    let m = first-fine 16 _ _ (λ z. omega arith) (c .1) in
+    (omega (arith, leb-true strand 3 (a .0)), omega (arith, leb-true side 1 (b .0)), omega (arith, leb-true flags 3 (c .0)), m .0)
 
-pub step-says : (n : Counts) (u : State) (k : Reference) (c : Command) → ReferenceAlike n u k → StepSays n u k c
-step-says n u k c h = by-test (eqb (firstNo (questions (k .ledger) c)) 0) (λ t. by-command c (eqb-true _ 0 t)) (λ t. step-refused n u k c h (eqb-false _ 0 t))
+pub step-says : (hv : Bool) (n : Counts) (u : State) (k : Reference) (c : Command) → ReferenceAlike n u k → StepSays hv n u k c
+step-says hv n u k c h =
+    by-test (eqb (firstNo (questions hv (k .ledger) c)) 0) (λ t. by-command c (eqb-true _ 0 t)) (λ t. step-refused hv n u k c h (eqb-false _ 0 t))
   where
-    by-command : (c : Command) → firstNo (questions (k .ledger) c) ≡ 0 → StepSays n u k c
+    by-command : (c : Command) → firstNo (questions hv (k .ledger) c) ≡ 0 → StepSays hv n u k c
     by-command =
         by-view (λ strand side flags word e.
-        let (s, d, f) = asked-8 (k .ledger) strand side flags word e in
-        step-insert h strand side flags word s d f)
-        (λ strand kind selector size address. step-plain h (command.Access strand kind selector size address) tt refl)
-        (λ c e. step-plain h c (rw e tt) (rw e))
+        let (s, d, f, m) = asked-16 hv (k .ledger) strand side flags word e in
+        step-insert h strand side flags word s d f hv m)
+        (λ strand kind selector size address. step-plain h hv (command.Access strand kind selector size address) tt refl)
+        (λ c e. step-plain h hv c (rw e tt) (rw e))
 
 -- ---- a state that some ledger describes is sound
 side-fits : {n : ℕ} {s : _} {m : _} → SideAlike n s m → sideFits n s ≡ true
@@ -333,17 +339,17 @@ alike-words {u} {k} h =
     size : length (u .registers) ≡ registerWords
     size = sound-file (u .registers) (h .ledger .allowed)
 
-pub record Agrees (n : Counts) (u : State) (k : Reference) (cs : List Command) : Type 0 where
-  pub say : CommandsSay n u k cs
-  pub bytes : ledgerBytes n u k cs ≡ answersBytes u cs
-  pub alike : ReferenceAlike n (after u cs) (fedAfter n u k cs)
+pub record Agrees (hv : Bool) (n : Counts) (u : State) (k : Reference) (cs : List Command) : Type 0 where
+  pub say : CommandsSay hv n u k cs
+  pub bytes : ledgerBytes hv n u k cs ≡ answersBytes hv u cs
+  pub alike : ReferenceAlike n (after hv u cs) (fedAfter hv n u k cs)
 
-pub commands-agree : (n : Counts) (u : State) (k : Reference) (cs : List Command) → ReferenceAlike n u k → Agrees n u k cs
+pub commands-agree : (hv : Bool) (n : Counts) (u : State) (k : Reference) (cs : List Command) → ReferenceAlike n u k → Agrees hv n u k cs
 unfolding ledgerBytes answersBytes fedAfter after
-commands-agree n u k [] h = record { say = alike-words h; bytes = refl; alike = h }
-commands-agree n u k (c ∷ cs) h =
-    let s = step-says n u k c h in
-    let r = commands-agree n (step u c .state) (fedNext n u k c) cs (s .alike) in
+commands-agree hv n u k [] h = record { say = alike-words h; bytes = refl; alike = h }
+commands-agree hv n u k (c ∷ cs) h =
+    let s = step-says hv n u k c h in
+    let r = commands-agree hv n (step hv u c .state) (fedNext hv n u k c) cs (s .alike) in
     record {
       say = (alike-words h, s .bytes, s .says, r .say);
       bytes = ap₂ (λ (a b : Bytes). a ++ b) (s .bytes) (r .bytes);
@@ -351,7 +357,8 @@ commands-agree n u k (c ∷ cs) h =
     }
 
 -- ---- a run
-module _ (n : Counts) (words : List ℕ) (input output : Bytes) (w : wordsSound n words ≡ true) (t : Reading) (x : ReadAs input (length output) t) where
+module _ (hv : Bool) (n : Counts) (words : List ℕ) (input output : Bytes) (w : wordsSound n words ≡ true)
+    (t : Reading) (x : ReadAs input (length output) t) where
   abbrev cs : List Command
   cs = t .commands
 
@@ -359,27 +366,27 @@ module _ (n : Counts) (words : List ℕ) (input output : Bytes) (w : wordsSound 
   same-commands : commandsOf input output ≡ cs
   same-commands = ap (λ (y : Taken). y .commands) (reads-taken input (length output) x)
 
-  pub read-words : runOf n words input output .words ≡ encode (after (stateOf n words) cs)
-  read-words = rw same-commands at (run-words n words input output w)
+  pub read-words : runOf hv n words input output .words ≡ encode (after hv (stateOf n words) cs)
+  read-words = rw same-commands at (run-words hv n words input output w)
 
-  pub read-answered : runOf n words input output .answered ≡ length cs
-  read-answered = rw same-commands at (run-answered n words input output w)
+  pub read-answered : runOf hv n words input output .answered ≡ length cs
+  read-answered = rw same-commands at (run-answered hv n words input output w)
 
-  pub read-taken : runOf n words input output .taken ≡ length input - length (t .rest)
-  read-taken = run-taken n words input output w ∙ ap (λ (y : Taken). y .width) (reads-taken input (length output) x)
+  pub read-taken : runOf hv n words input output .taken ≡ length input - length (t .rest)
+  read-taken = run-taken hv n words input output w ∙ ap (λ (y : Taken). y .width) (reads-taken input (length output) x)
 
-  pub read-stop : runOf n words input output .stop ≡ t .stop
-  read-stop = run-stop n words input output w ∙ ap (λ (y : Taken). y .stop) (reads-taken input (length output) x)
+  pub read-stop : runOf hv n words input output .stop ≡ t .stop
+  read-stop = run-stop hv n words input output w ∙ ap (λ (y : Taken). y .stop) (reads-taken input (length output) x)
 
-  pub read-front : take (length cs * 24) (runOf n words input output .output) ≡ answersBytes (stateOf n words) cs
-  read-front = rw (read-answered, same-commands) at (run-front n words input output w)
+  pub read-front : take (length cs * 24) (runOf hv n words input output .output) ≡ answersBytes hv (stateOf n words) cs
+  read-front = rw (read-answered, same-commands) at (run-front hv n words input output w)
 
-  pub read-past : drop (length cs * 24) (runOf n words input output .output) ≡ drop (length cs * 24) output
-  read-past = rw read-answered at (run-past n words input output w)
+  pub read-past : drop (length cs * 24) (runOf hv n words input output .output) ≡ drop (length cs * 24) output
+  read-past = rw read-answered at (run-past hv n words input output w)
 
-  run-says : (k : Reference) → ReferenceAlike n (stateOf n words) k → RunSays n words k input output t
+  run-says : (k : Reference) → ReferenceAlike n (stateOf n words) k → RunSays hv n words k input output t
   run-says k h =
-      let r = commands-agree n (stateOf n words) k cs h in
+      let r = commands-agree hv n (stateOf n words) k cs h in
       record {
         sound = λ e. reads-stop x (sym read-stop ∙ e);
         stop = read-stop;
@@ -417,14 +424,14 @@ serve-says h strand side ofZero ofOther = serve-by h strand side (miss-alike (h 
 event-says : (n : Counts) (e : Event) (u : State) (k : Reference) (Then : List ℕ → Reference → Type 0) → ReferenceAlike n u k
     → ((v : State) (l : Reference) → ReferenceAlike n v l → Then (encode v) l) → EventSays n (encode u) k e Then
 unfolding servedOf
-event-says n (run input output) u k Then h then =
+event-says n (run hv input output) u k Then h then =
     let s : sound n u ≡ true = alike-sound n u (k .ledger) (h .ledger) in
     let back : stateOf n (encode u) ≡ u = sound-encode n u s in
     let w : wordsSound n (encode u) ≡ true = words-sound n u s in
     let g : ReferenceAlike n (stateOf n (encode u)) k = rw back h in
     λ t x.
-    let r = commands-agree n (stateOf n (encode u)) k (t .commands) g in
-    (run-says n (encode u) input output w t x k g, rw (read-words n (encode u) input output w t x) (then _ _ (r .alike)))
+    let r = commands-agree hv n (stateOf n (encode u)) k (t .commands) g in
+    (run-says hv n (encode u) input output w t x k g, rw (read-words hv n (encode u) input output w t x) (then _ _ (r .alike)))
 event-says n (serve strand side ofZero ofOther) u k Then h then =
     let s : sound n u ≡ true = alike-sound n u (k .ledger) (h .ledger) in
     let r = serve-says h strand side ofZero ofOther in

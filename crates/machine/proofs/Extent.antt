@@ -123,7 +123,7 @@ module _ (strand side : ℕ) (l : Ledger) where
       named none = same
       named (some x) = entries-last k _ h
 
-  does-lasts : (n : ℕ → ℕ) (c : Command) (d : Name) → disturbs strand side c ≡ false → Lasts (does n l c d)
+  pub does-lasts : (n : ℕ → ℕ) (c : Command) (d : Name) → disturbs strand side c ≡ false → Lasts (does n l c d)
   unfolding does disturbs pointers
   does-lasts n (command.Write s number value) d h = write-lasts same s number value h
   does-lasts n (command.Insert s k flags word) d h = insert-lasts (n k) k _ d h
@@ -136,9 +136,9 @@ module _ (strand side : ℕ) (l : Ledger) where
   does-lasts n (command.Pointers s k) d h = same
   does-lasts n (command.Rate s k) d h = same
 
-  command-lasts : (n : ℕ → ℕ) (c : Command) (d : Name) → disturbs strand side c ≡ false → Lasts (enters n l c d)
+  command-lasts : (hv : Bool) (n : ℕ → ℕ) (c : Command) (d : Name) → disturbs strand side c ≡ false → Lasts (enters hv n l c d)
   unfolding enters
-  command-lasts n c d h = by-test (eqb (firstNo (questions l c)) 0) (λ t. rw t (does-lasts n c d h)) (λ t. rw t same)
+  command-lasts hv n c d h = by-test (eqb (firstNo (questions hv l c)) 0) (λ t. rw t (does-lasts n c d h)) (λ t. rw t same)
 
   serve-lasts : (n : ℕ → ℕ) (at k : ℕ) (m : Miss) (d : Name) → eqb k side ≡ false → Lasts (serves n l at k m d)
   unfolding entersInsertion
@@ -147,13 +147,13 @@ module _ (strand side : ℕ) (l : Ledger) where
   serve-lasts n at k (present word) d h =
       by-test (eqb (firstNo (insertionQuestions l at k word)) 0) (λ t. rw t (insert-lasts (n k) k _ d h)) (λ t. rw t same)
 
-commands-last : (n : ℕ → ℕ) (k : Reference) (cs : List Command) {strand side : ℕ} → anyOf (disturbs strand side) cs ≡ false
-    → Undisturbed strand side (k .ledger) (referenceAfter n k cs .ledger)
+commands-last : (hv : Bool) (n : ℕ → ℕ) (k : Reference) (cs : List Command) {strand side : ℕ} → anyOf (disturbs strand side) cs ≡ false
+    → Undisturbed strand side (k .ledger) (referenceAfter hv n k cs .ledger)
 unfolding referenceAfter anyOf
-commands-last n k [] h = same
-commands-last n k (c ∷ cs) {strand} {side} h =
-    then (command-lasts strand side (k .ledger) n c (displacedName k c) (or-left _ _ h))
-    (commands-last n (referenceNext n k c) cs (or-right (disturbs strand side c) _ h))
+commands-last hv n k [] h = same
+commands-last hv n k (c ∷ cs) {strand} {side} h =
+    then (command-lasts strand side (k .ledger) hv n c (displacedName k c) (or-left _ _ h))
+    (commands-last hv n (referenceNext hv n k c) cs (or-right (disturbs strand side c) _ h))
 
 -- ---- how far
 -- bytes that none of the steps writes are those of the last
@@ -352,8 +352,8 @@ pub extent : (n : Counts) → Extent n
 extent n = record {
   page = λ k g q s c attributes code address small b paged after v size used aligned page.
       near-told (good-alike n k g .ledger) q s c attributes code address small paged b after v size used aligned page;
-  commands = λ k cs strand side h.
-      commands-last (slotCount n) k cs (not-true _ (sym (none-passes (disturbs strand side) cs) ∙ h));
+  commands = λ hv k cs strand side h.
+      commands-last hv (slotCount n) k cs (not-true _ (sym (none-passes (disturbs strand side) cs) ∙ h));
   miss = λ k at served ofZero ofOther strand side h.
       serve-lasts strand side (k .ledger) (slotCount n) at served (miss (k .ledger) at served ofZero ofOther) (missName k served) h;
 }

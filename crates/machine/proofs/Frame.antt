@@ -215,45 +215,45 @@ module _ (n : Counts) (u : State) (side : ℕ) (e : Entry) (h : sound n u ≡ tr
   settled-frame a prepared.Lookup d = looked-frame a (lookup (lookupKey (u .registers) a) (sideOf u (a .side))) d
 
   -- every command that no question refused
-  act-frame : (c : Command) → verdict u c ≡ Passed → Lives (act u c .state) side e ⊎ Removes u side e c
+  act-frame : (hv : Bool) (c : Command) → verdict hv u c ≡ Passed → Lives (act u c .state) side e ⊎ Removes u side e c
   unfolding act asked allOf isOf isAt inContext inPartition removes
-  act-frame (command.Write strand number value) v = inl l
-  act-frame (command.Insert strand other flags word) v =
-      let (s, o, i) = insert-insertable u strand other flags word v in
+  act-frame hv (command.Write strand number value) v = inl l
+  act-frame hv (command.Insert strand other flags word) v =
+      let (s, o, i) = insert-insertable hv u strand other flags word v in
       insert-frame strand other flags word s o i
-  act-frame (command.DemapPage strand other selector flags address) v =
-      let q = passed-asked u (command.DemapPage strand other selector flags address) v in
+  act-frame hv (command.DemapPage strand other selector flags address) v =
+      let q = passed-asked hv u (command.DemapPage strand other selector flags address) v in
       let s : StrandSound (u .registers) strand = strand-sound (u .registers) strand (sound-registers n u h) (search conj) in
       let small : flags < 2 = search conj in
       demap-frame other (search conj) (page-test _ (flagReal flags) _ address)
       (λ f t. rw f (demappedPage (of-partition e _ (and-left _ _ t)) (rw (mod-eq-of-lt small) at t)))
-  act-frame (command.DemapContext strand other selector) v =
-      let q = passed-asked u (command.DemapContext strand other selector) v in
+  act-frame hv (command.DemapContext strand other selector) v =
+      let q = passed-asked hv u (command.DemapContext strand other selector) v in
       let s : StrandSound (u .registers) strand = strand-sound (u .registers) strand (sound-registers n u h) (search conj) in
       demap-frame other (search conj) (context-test _ _ (s .partitions) (s .contexts selector)) (λ f t. rw f (demappedContext (of-partition e _ t) t))
-  act-frame (command.DemapAll strand other) v =
-      let q = passed-asked u (command.DemapAll strand other) v in
+  act-frame hv (command.DemapAll strand other) v =
+      let q = passed-asked hv u (command.DemapAll strand other) v in
       demap-frame other (search conj) (partition-test (partition (u .registers) strand))
       (λ f t. rw f (demappedAll (of-partition e _ t) (and-right (eqb (e .partition) _) _ t)))
-  act-frame (command.Invalidate other) v =
-      let q = passed-asked u (command.Invalidate other) v in
+  act-frame hv (command.Invalidate other) v =
+      let q = passed-asked hv u (command.Invalidate other) v in
       demap-frame other (search conj) live-test (λ f t. rw f invalidated)
-  act-frame (command.Access strand kind selector size address) v =
+  act-frame hv (command.Access strand kind selector size address) v =
       let a : Access = accessOf (u .registers) strand kind selector size address in
       inl (settled-frame a (prepare (u .registers) a) (kind-side kind))
-  act-frame (command.Read strand number) v = inl l
-  act-frame (command.Pointers strand other) v = inl l
-  act-frame (command.Rate strand other) v = inl l
+  act-frame hv (command.Read strand number) v = inl l
+  act-frame hv (command.Pointers strand other) v = inl l
+  act-frame hv (command.Rate strand other) v = inl l
 
 -- ---- the laws
 -- a live entry stays, the same in all its parts, or the command was accepted and is one that takes it
-by-command : (n : Counts) (u : State) (c : Command) (side : ℕ) (e : Entry) → sound n u ≡ true → side < 2 → Lives u side e
-    → Lives (step u c .state) side e ⊎ ((verdict u c ≡ Passed) × Removes u side e c)
+by-command : (hv : Bool) (n : Counts) (u : State) (c : Command) (side : ℕ) (e : Entry) → sound n u ≡ true → side < 2 → Lives u side e
+    → Lives (step hv u c .state) side e ⊎ ((verdict hv u c ≡ Passed) × Removes u side e c)
 unfolding step
-by-command n u c side e h b l = go (verdict u c) refl
+by-command hv n u c side e h b l = go (verdict hv u c) refl
   where
-    go : (v : Verdict) → verdict u c ≡ v → Lives (stepBy v u c .state) side e ⊎ ((verdict u c ≡ Passed) × Removes u side e c)
-    go Passed v = ⊎-elim inl (λ r. inr (v, r)) (act-frame n u side e h b l c v)
+    go : (v : Verdict) → verdict hv u c ≡ v → Lives (stepBy v u c .state) side e ⊎ ((verdict hv u c ≡ Passed) × Removes u side e c)
+    go Passed v = ⊎-elim inl (λ r. inr (v, r)) (act-frame n u side e h b l hv c v)
     go (Refused r) v = inl l
 
 -- .. or the miss was served, by an insertion that takes it

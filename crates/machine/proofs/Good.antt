@@ -108,8 +108,8 @@ state-alike n u h = record {
     side k = record { size = sound-side n u h k .0; sound = sound-side n u h k .1; same = λ p. entries-same p (sideOf u k) }
 
 -- what a command leaves is described again, so it is sound
-pub step-sound : (n : Counts) (u : State) (c : Command) → sound n u ≡ true → sound n (step u c .state) ≡ true
-step-sound n u c h = alike-sound n _ _ (step-says n u (referenceOf u) c (state-alike n u h) .alike .ledger)
+pub step-sound : (hv : Bool) (n : Counts) (u : State) (c : Command) → sound n u ≡ true → sound n (step hv u c .state) ≡ true
+step-sound hv n u c h = alike-sound n _ _ (step-says hv n u (referenceOf u) c (state-alike n u h) .alike .ledger)
 
 -- what describes a state is good
 pub alike-good : {n : Counts} {u : State} {k : Reference} → ReferenceAlike n u k → ReferenceGood (slotCount n) k

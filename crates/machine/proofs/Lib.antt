@@ -30,4 +30,5 @@ pub mod Demand1
 pub mod Demand2
 pub mod Frame
 pub mod Lookups
+pub mod Guests
 pub mod Format

@@ -87,13 +87,14 @@ module _ (n : Counts) (u : State) (h : sound n u ≡ true) (strand side : ℕ) (
         older = record-older y strand side s d ∙ rw o (sym (record-older x strand side s d));
       }
 
-  module _ (k kind selector size : ℕ) (address : VirtualAddress) (v : verdict u (command.Access k kind selector size address) ≡ Passed) where
+  module _ (hv : Bool) (k kind selector size : ℕ) (address : VirtualAddress)
+      (v : verdict hv u (command.Access k kind selector size address) ≡ Passed) where
     abbrev a : Access
     a = accessOf (u .registers) k kind selector size address
 
     strand-small : k < 4
     unfolding asked allOf
-    strand-small = let q = passed-asked u (command.Access k kind selector size address) v in search conj
+    strand-small = let q = passed-asked hv u (command.Access k kind selector size address) v in search conj
 
     noted-same : (eqb strand k && eqb side (kindSide kind)) ≡ false → SameRecord strand side u (settle u a prepared.Lookup .state)
     noted-same o =
@@ -103,7 +104,7 @@ module _ (n : Counts) (u : State) (h : sound n u ≡ true) (strand side : ℕ) (
         rw (looked-records u a found, e) (record { seen = t .seen; newest = t .newest; older = t .older })
 
     settled-record : (p : Prepared) → prepare (u .registers) a ≡ p
-        → SameRecord strand side u (settle u a p .state) ⊎ LooksUp u strand side (command.Access k kind selector size address)
+        → SameRecord strand side u (settle u a p .state) ⊎ LooksUp hv u strand side (command.Access k kind selector size address)
     settled-record (prepared.Stopped t tag) e = inl (kept refl)
     settled-record (prepared.Bypass p) e = inl (kept refl)
     settled-record prepared.Lookup e = by-test (eqb strand k && eqb side (kindSide kind))
@@ -113,25 +114,25 @@ module _ (n : Counts) (u : State) (h : sound n u ≡ true) (strand side : ℕ) (
         inr (rw is (looksUp v (sym on) e)))
         (λ t. inl (noted-same t))
 
-  act-record : (c : Command) → verdict u c ≡ Passed → SameRecord strand side u (act u c .state) ⊎ LooksUp u strand side c
+  act-record : (hv : Bool) (c : Command) → verdict hv u c ≡ Passed → SameRecord strand side u (act u c .state) ⊎ LooksUp hv u strand side c
   unfolding act
-  act-record (command.Write k number value) v = inl (kept refl)
-  act-record (command.Insert k other flags word) v = inl (kept refl)
-  act-record (command.DemapPage k other selector flags address) v = inl (kept refl)
-  act-record (command.DemapContext k other selector) v = inl (kept refl)
-  act-record (command.DemapAll k other) v = inl (kept refl)
-  act-record (command.Invalidate other) v = inl (kept refl)
-  act-record (command.Access k kind selector size address) v = settled-record k kind selector size address v _ refl
-  act-record (command.Read k number) v = inl (kept refl)
-  act-record (command.Pointers k other) v = inl (kept refl)
-  act-record (command.Rate k other) v = inl (kept refl)
+  act-record hv (command.Write k number value) v = inl (kept refl)
+  act-record hv (command.Insert k other flags word) v = inl (kept refl)
+  act-record hv (command.DemapPage k other selector flags address) v = inl (kept refl)
+  act-record hv (command.DemapContext k other selector) v = inl (kept refl)
+  act-record hv (command.DemapAll k other) v = inl (kept refl)
+  act-record hv (command.Invalidate other) v = inl (kept refl)
+  act-record hv (command.Access k kind selector size address) v = settled-record hv k kind selector size address v _ refl
+  act-record hv (command.Read k number) v = inl (kept refl)
+  act-record hv (command.Pointers k other) v = inl (kept refl)
+  act-record hv (command.Rate k other) v = inl (kept refl)
 
-  step-record : (c : Command) → SameRecord strand side u (step u c .state) ⊎ LooksUp u strand side c
+  step-record : (hv : Bool) (c : Command) → SameRecord strand side u (step hv u c .state) ⊎ LooksUp hv u strand side c
   unfolding step
-  step-record c = go (verdict u c) refl
+  step-record hv c = go (verdict hv u c) refl
     where
-      go : (v : Verdict) → verdict u c ≡ v → SameRecord strand side u (stepBy v u c .state) ⊎ LooksUp u strand side c
-      go Passed e = act-record c e
+      go : (v : Verdict) → verdict hv u c ≡ v → SameRecord strand side u (stepBy v u c .state) ⊎ LooksUp hv u strand side c
+      go Passed e = act-record hv c e
       go (Refused r) e = inl (kept refl)
 
 -- ---- a served miss
@@ -155,4 +156,4 @@ served-records u strand side ofZero ofOther = go (ask (askedTable u strand side 
     go (Refused r) = refl
 
 pub lookups : Lookups
-lookups = record { byCommand = λ n u c strand side h s d. step-record n u h strand side s d c; byMiss = served-records }
+lookups = record { byCommand = λ hv n u c strand side h s d. step-record n u h strand side s d hv c; byMiss = served-records }

@@ -9,6 +9,7 @@ use Rattle.machine.specs.Sound.{ownerSound, pageSound, liveSound, emptyS
 use Rattle.machine.specs.Registers.{known, writable, baseAllowed, configurationAllowed, allowed, registersSound, resetStrands}
 use Rattle.machine.specs.Record.{turned, pushed, put, recordSound, recordsSound}
 use Rattle.machine.specs.State.{stateOf, encode, reset, sideFits, sound, wordsSound}
+use Rattle.machine.specs.Permission.{guestWritable, permitted}
 use Rattle.machine.specs.Questions.{asked, askedInsertion, ask, verdict}
 use Rattle.machine.specs.Access.{prepare, faultType, judge, trapRegisters}
 use Rattle.machine.specs.Step.{act, step}
@@ -21,7 +22,7 @@ unfolding PrintedRun given printed allBelow count anyOf allOf pairwise firstFrom
     wordInsertable frame physicalBy slotsOf wordsOf pageMatch isCompared answersTo lookup overlaps removes entryOf wants choice inserted placed
     hasSlot ownerSound pageSound liveSound emptySound slotSound sideSound known writable baseAllowed
     configurationAllowed allowed registersSound resetStrands turned pushed put recordSound recordsSound stateOf encode reset sideFits
-    sound wordsSound asked askedInsertion
+    sound wordsSound guestWritable permitted asked askedInsertion
     ask verdict prepare faultType judge trapRegisters tsbOffset tsbPointer act step eight widthOf commandAt decodeAt
     answerBytes takes after answersBytes finish runOf
 printed-run = (refl, refl, refl, refl)

@@ -16,7 +16,8 @@ use Rattle.machine.specs.Pages.{inRange, listed, pageSize, pageStart}
 use Rattle.machine.specs.Words.{bits, wordSound, wordInsertable}
 use Rattle.machine.specs.Slots.{noSlot}
 use Rattle.machine.specs.Insertion.{entryOf, candidate, hasSlot}
-use Rattle.machine.specs.Registers.{register, withRegister, partition, selected, tagAccess, tagAddress}
+use Rattle.machine.specs.Permission.{guestWritable, leastMode, permitted}
+use Rattle.machine.specs.Registers.{register, withRegister, partition, mode, selected, tagAccess, tagAddress}
 use Rattle.machine.specs.Registers.{tagContext, baseNumber, configurationNumber, known, writable, baseAllowed}
 use Rattle.machine.specs.Registers.{configurationAllowed, allowed, resetRegisters, resetStrands}
 use Rattle.machine.specs.State.{Counts, State, sideOf, withRegisters, reset}
@@ -27,7 +28,7 @@ use Rattle.machine.specs.Tsb.{tsbOffset, tsbPointer, pointer}
 use Rattle.machine.specs.Stream.{answerBytes}
 use Rattle.machine.specs.Ledger.{Ledger, start, writes, pageBytes, codeListed, addressGood, wordGood}
 use Rattle.machine.specs.Ledger.{registerKnown, registerWritable, valueGood, contextPicked, tagOf, line}
-use Rattle.machine.specs.Ledger.{newEntry, firstNo, selectorGood, insertionQuestions, questions, pointerOf, pointers, recent, thousandths}
+use Rattle.machine.specs.Ledger.{newEntry, firstNo, selectorGood, modeAllows, guestWrites, insertionQuestions, questions, pointerOf, pointers, recent, thousandths}
 use Rattle.machine.specs.Places.{row, outcomesWord}
 use Rattle.machine.specs.Frame.{entryIn}
 use Rattle.machine.specs.Views.{View, view}
@@ -202,6 +203,28 @@ selector-good side selector = rw (at-most selector 2, and-comm (eqb selector 1) 
 size-good : (kind size : ℕ) → (leb size 3 && (not (eqb kind 0) || eqb size 2)) ≡ sizeFits kind size
 size-good kind size = rw (at-most size 3)
 
+-- number 16: the ledger says what each mode may do, the unit which mode it takes
+pub mode-allows : (guest : Bool) (mode : ℕ) → cond (eqb mode 0) false (cond (eqb mode 1) guest true) ≡ leb (leastMode guest) mode
+mode-allows true mode = by-test (eqb mode 0)
+    (λ e. rw (e, lt-leb 1 mode (omega tests)))
+    (λ e. rw (e, le-leb 1 mode (omega (arith, eqb-false mode 0 e))) (by-test (eqb mode 1) (λ f. rw f) (λ f. rw f)))
+mode-allows false mode = by-test (eqb mode 0)
+    (λ e. rw (e, lt-leb 2 mode (omega tests)))
+    (λ e. rw e (by-test (eqb mode 1)
+    (λ f. rw (f, lt-leb 2 mode (omega tests)))
+    (λ f. rw (f, le-leb 2 mode (omega (arith, eqb-false mode 0 e, eqb-false mode 1 f))))))
+
+-- the registers that are open to mode 1
+guest-writes : (r : ℕ) → guestWrites r ≡ guestWritable r
+unfolding guestWritable
+guest-writes r =
+    by-test (ltb r 1) (λ e. let z : r ≡ 0 = omega (arith, ltb-true r 1 e) in rw z) (λ e.
+    rw (one-or-two r (ltb-false r 1 e), e) (by-test (ltb r 3) (λ f. rw f) (λ f.
+    rw f (by-test (ltb r 5)
+    (λ g. rw (g, ne-eqb r 5 (λ z. omega (arith, ltb-true r 5 g)), lt-leb 8 r (omega (arith, ltb-true r 5 g))))
+    (λ g. rw (g, only r 5 (ltb-false r 5 g)) (by-test (ltb r 6) (λ i. rw i) (λ i.
+    rw i (by-test (ltb r 8) (λ j. rw (j, lt-leb 8 r (ltb-true r 8 j))) (λ j. rw (j, between 8 r 21 (ltb-false r 8 j)))))))))))
+
 -- ---- the registers of a state and a ledger that are alike
 module _ {n : Counts} {u : State} {l : Ledger} (a : Alike n u l) (strand : ℕ) (s : strand < 4) where
   access-selector : (kind selector : ℕ)
@@ -209,6 +232,9 @@ module _ {n : Counts} {u : State} {l : Ledger} (a : Alike n u l) (strand : ℕ) 
       ≡ (selectorFits (kindSide kind) selector && not (nucleusFetch (u .registers) strand kind selector))
   access-selector kind selector =
       rw (a .registers strand 3 s (omega arith), selector-good (kindSide kind) selector, and-turn (eqb kind 0) (eqb selector 2))
+
+  pub allows : {guest granted : Bool} → guest ≡ granted → modeAllows l strand guest ≡ leb (leastMode granted) (mode (u .registers) strand)
+  allows {granted} e = rw (e, a .registers strand 3 s (omega arith)) (mode-allows granted (mode (u .registers) strand))
 
   -- of a selector that passed 7
   pub context-picked : (selector : ℕ) → selector < 3 → contextPicked l strand selector ≡ selected (u .registers) strand selector
@@ -241,7 +267,7 @@ numbered =
     Passed ∷ Passed ∷ Passed ∷ Passed ∷ Passed
     ∷ Refused refusal.Strand ∷ Refused refusal.Side ∷ Refused refusal.Selector ∷ Refused refusal.Operand ∷ Refused refusal.Register
     ∷ Refused refusal.Value ∷ Refused refusal.Address ∷ Refused refusal.Word ∷ Refused refusal.NoSlot
-    ∷ Refused refusal.Table ∷ Refused refusal.NoLookup ∷ []
+    ∷ Refused refusal.Table ∷ Refused refusal.NoLookup ∷ Refused refusal.Permission ∷ []
 
 verdict-back : (v : Verdict) → getD numbered (verdictNumber v) Passed ≡ v
 unfolding numbered
@@ -257,6 +283,7 @@ verdict-back (Refused refusal.Word) = refl
 verdict-back (Refused refusal.NoSlot) = refl
 verdict-back (Refused refusal.Table) = refl
 verdict-back (Refused refusal.NoLookup) = refl
+verdict-back (Refused refusal.Permission) = refl
 
 -- verdicts are told apart by their numbers
 pub same-number : (v w : Verdict) → verdictNumber v ≡ verdictNumber w → v ≡ w
@@ -320,32 +347,38 @@ module _ {n : Counts} {u : State} {l : Ledger} (a : Alike n u l) where
   insertion-in-step strand side flags word s d =
       next (ap addressGood (tag-address a strand s side d) ∙ address-good _) (λ _. next (word-insertable word) (λ _. slot))
 
-  in-step : (c : Command) → InStep (slotLeft u c) (asked u c) (questions l c)
-  unfolding asked questions
-  in-step (command.Write strand number value) =
-      next (at-most strand 3) (λ s. next (register-writable number) (λ w. next (value-good number value (writable-known number w)) (λ _. done refl)))
-  in-step (command.Insert strand side flags word) =
-      next (at-most strand 3) (λ s. next (at-most side 1) (λ d. next (at-most flags 3) (λ _.
-      insertion-in-step strand side flags word (ltb-true _ _ s) (ltb-true _ _ d))))
-  in-step (command.DemapPage strand side selector flags address) =
+  in-step : (hv : Bool) (c : Command) → InStep (slotLeft u c) (asked hv u c) (questions hv l c)
+  unfolding asked questions permitted
+  in-step hv (command.Write strand number value) =
+      next (at-most strand 3) (λ s. next (register-writable number) (λ w. next (value-good number value (writable-known number w)) (λ _.
+      next (allows a strand (ltb-true _ _ s) (guest-writes number)) (λ _. done refl))))
+  in-step hv (command.Insert strand side flags word) =
+      next (at-most strand 3) (λ s. next (at-most side 1) (λ d. next (at-most flags 3) (λ _. next (allows a strand (ltb-true _ _ s) refl) (λ _.
+      insertion-in-step strand side flags word (ltb-true _ _ s) (ltb-true _ _ d)))))
+  in-step hv (command.DemapPage strand side selector flags address) =
       next (at-most strand 3) (λ s. next (at-most side 1) (λ d. next (selector-good side selector) (λ _.
-      next (at-most flags 1) (λ _. next (address-good (address .0)) (λ _. done refl)))))
-  in-step (command.DemapContext strand side selector) =
-      next (at-most strand 3) (λ s. next (at-most side 1) (λ d. next (selector-good side selector) (λ _. done refl)))
-  in-step (command.DemapAll strand side) = next (at-most strand 3) (λ s. next (at-most side 1) (λ _. done refl))
-  in-step (command.Invalidate side) = next (at-most side 1) (λ _. done refl)
-  in-step (command.Access strand kind selector size address) =
+      next (at-most flags 1) (λ _. next (allows a strand (ltb-true _ _ s) refl) (λ _. next (address-good (address .0)) (λ _. done refl))))))
+  in-step hv (command.DemapContext strand side selector) =
+      next (at-most strand 3) (λ s. next (at-most side 1) (λ d. next (selector-good side selector) (λ _.
+      next (allows a strand (ltb-true _ _ s) refl) (λ _. done refl))))
+  in-step hv (command.DemapAll strand side) =
+      next (at-most strand 3) (λ s. next (at-most side 1) (λ _. next (allows a strand (ltb-true _ _ s) refl) (λ _. done refl)))
+  in-step hv (command.Invalidate side) = next (at-most side 1) (λ _. next refl (λ _. done refl))
+  in-step hv (command.Access strand kind selector size address) =
       next (at-most strand 3) (λ s. next (at-most kind 4) (λ _.
       next (access-selector a strand (ltb-true _ _ s) kind selector) (λ _. next (size-good kind size) (λ _. done refl))))
-  in-step (command.Read strand number) = next (at-most strand 3) (λ s. next (register-known number) (λ _. done refl))
-  in-step (command.Pointers strand side) = next (at-most strand 3) (λ s. next (at-most side 1) (λ _. done refl))
-  in-step (command.Rate strand side) =
-      next (at-most strand 3) (λ s. next (at-most side 1) (λ d.
-      next (lookups-alike (a .records) strand side (ltb-true _ _ s) (ltb-true _ _ d)) (λ _. done refl)))
+  in-step hv (command.Read strand number) = next (at-most strand 3) (λ s. next (register-known number) (λ _. done refl))
+  in-step hv (command.Pointers strand side) =
+      next (at-most strand 3) (λ s. next (at-most side 1) (λ _. next (allows a strand (ltb-true _ _ s) refl) (λ _. done refl)))
+  in-step hv (command.Rate strand side) =
+      next (at-most strand 3) (λ s. next (at-most side 1) (λ d. next (allows a strand (ltb-true _ _ s) refl) (λ _.
+      next (lookups-alike (a .records) strand side (ltb-true _ _ s) (ltb-true _ _ d)) (λ _. done refl))))
 
-  first-refusal : (c : Command) → verdictNumber (verdict u c) ≡ cond (eqb (firstNo (questions l c)) 0) (cond (slotLeft u c) 0 13) (firstNo (questions l c))
+  first-refusal : (hv : Bool) (c : Command) →
+      let number : ℕ = firstNo (questions hv l c) in
+      verdictNumber (verdict hv u c) ≡ cond (eqb number 0) (cond (slotLeft u c) 0 13) number
   unfolding verdict
-  first-refusal c = first-no (in-step c)
+  first-refusal hv c = first-no (in-step hv c)
 
   -- from 11 on
   pub insertion-number : (strand side flags word : ℕ) → strand < 4 → side < 2 →
@@ -354,13 +387,13 @@ module _ {n : Counts} {u : State} {l : Ledger} (a : Alike n u l) where
       ≡ cond (eqb number 0) (cond (hasSlot candidate (insertion u strand side flags word) (sideOf u side)) 0 13) number
   insertion-number strand side flags word s d = first-no (insertion-in-step strand side flags word s d)
 
-  -- a command that the ledger refuses by 5 to 12, the unit refuses by the same number
-  pub refused-alike : (c : Command) → (firstNo (questions l c) ≡ 0 → ⊥) → verdictNumber (verdict u c) ≡ firstNo (questions l c)
-  refused-alike c h = first-refusal c ∙ rw (ne-eqb (firstNo (questions l c)) 0 h)
+  -- a command that the ledger refuses by 5 to 12, 15 or 16, the unit refuses by the same number
+  pub refused-alike : (hv : Bool) (c : Command) → (firstNo (questions hv l c) ≡ 0 → ⊥) → verdictNumber (verdict hv u c) ≡ firstNo (questions hv l c)
+  refused-alike hv c h = first-refusal hv c ∙ rw (ne-eqb (firstNo (questions hv l c)) 0 h)
 
   -- one that it does not refuse so passes, but for an insertion that finds no slot: 13
-  pub passed-alike : (c : Command) → firstNo (questions l c) ≡ 0 → verdictNumber (verdict u c) ≡ cond (slotLeft u c) 0 13
-  passed-alike c h = first-refusal c ∙ rw h
+  pub passed-alike : (hv : Bool) (c : Command) → firstNo (questions hv l c) ≡ 0 → verdictNumber (verdict hv u c) ≡ cond (slotLeft u c) 0 13
+  passed-alike hv c h = first-refusal hv c ∙ rw h
 
   -- ---- commands that touch no side
   -- one write on both
@@ -377,20 +410,20 @@ module _ {n : Counts} {u : State} {l : Ledger} (a : Alike n u l) where
   }
 
   -- writes, reads and pointers that passed
-  pub write-alike : (strand number value : ℕ) → verdict u (command.Write strand number value) ≡ Passed
+  pub write-alike : (hv : Bool) (strand number value : ℕ) → verdict hv u (command.Write strand number value) ≡ Passed
       → Alike n (act u (command.Write strand number value) .state) (writes l strand number value)
   unfolding act asked allOf
-  write-alike strand number value v =
-      let q = passed-asked u (command.Write strand number value) v in
+  write-alike hv strand number value v =
+      let q = passed-asked hv u (command.Write strand number value) v in
       let s : strand < 4 = search conj in
       let w : writable number ≡ true = search conj in
       alike-registers strand number value s (omega (arith, writable-below number w)) (search conj)
 
-  pub read-bytes : (strand number : ℕ) → verdict u (command.Read strand number) ≡ Passed
+  pub read-bytes : (hv : Bool) (strand number : ℕ) → verdict hv u (command.Read strand number) ≡ Passed
       → answerBytes (act u (command.Read strand number) .answer) ≡ line 3 0 0 0 (l .registers strand number) 0
   unfolding act answerBytes asked allOf
-  read-bytes strand number v =
-      let q = passed-asked u (command.Read strand number) v in
+  read-bytes hv strand number v =
+      let q = passed-asked hv u (command.Read strand number) v in
       let s : strand < 4 = search conj in
       let k : known number ≡ true = search conj in
       rw (a .registers strand number s (omega (arith, known-below number k)))
@@ -412,11 +445,11 @@ module _ {n : Counts} {u : State} {l : Ledger} (a : Alike n u l) where
       )
       (pointer-of _ _ _ (configuration-listed (u .registers) strand (configurationNumber side context) size (a .allowed) s (omega arith) (omega arith) z))
 
-  pub pointers-bytes : (strand side : ℕ) → verdict u (command.Pointers strand side) ≡ Passed
+  pub pointers-bytes : (hv : Bool) (strand side : ℕ) → verdict hv u (command.Pointers strand side) ≡ Passed
       → answerBytes (act u (command.Pointers strand side) .answer) ≡ pointers l strand side .bytes
   unfolding act answerBytes asked allOf pointers
-  pointers-bytes strand side v =
-      let q = passed-asked u (command.Pointers strand side) v in
+  pointers-bytes hv strand side v =
+      let q = passed-asked hv u (command.Pointers strand side) v in
       let s : strand < 4 = search conj in
       let d : side < 2 = search conj in
       let whole : (x : ℕ) → x / 2 ^ 0 ≡ x = λ x. omega arith in
@@ -429,11 +462,11 @@ module _ {n : Counts} {u : State} {l : Ledger} (a : Alike n u l) where
       )
       (line-answer 3 _ _ (omega arith) (omega arith) (omega arith))
 
-  pub rate-bytes : (strand side : ℕ) → verdict u (command.Rate strand side) ≡ Passed
+  pub rate-bytes : (hv : Bool) (strand side : ℕ) → verdict hv u (command.Rate strand side) ≡ Passed
       → answerBytes (act u (command.Rate strand side) .answer) ≡ line 3 0 0 0 (thousandths (recent l strand side)) 0
   unfolding act answerBytes asked allOf
-  rate-bytes strand side v =
-      let q = passed-asked u (command.Rate strand side) v in
+  rate-bytes hv strand side v =
+      let q = passed-asked hv u (command.Rate strand side) v in
       rw (rate-alike (a .records) strand side (search conj) (search conj)) (line-answer 3 _ 0 (omega arith) (omega arith) (omega arith))
 
 pub write-bytes : (u : State) (strand number value : ℕ) → answerBytes (act u (command.Write strand number value) .answer) ≡ line 0 0 0 0 0 0

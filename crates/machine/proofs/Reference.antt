@@ -1,7 +1,7 @@
 -- The ledger with its places, fed the bytes alone, does what it does when it is fed the unit's names: the unit's runs are told by it. Assumes nothing.
 use Prim.Native.Nat.{ℕ, _*_, _≤_}
 use mathlib.Core.Path.{_≡_, refl, ap, ap₂, sym, subst, fun-ext, _∙_}
-use mathlib.Core.Bool.{true, _&&_}
+use mathlib.Core.Bool.{Bool, true, _&&_}
 use mathlib.Core.Option.{some}
 use mathlib.Core.List.{List, [], _∷_, _++_}
 use native.Mathlib.Omega.{arith}
@@ -72,23 +72,23 @@ own-name n l side e s b y = name-read n l side e (λ z.
     name-is _ x name ∙ ap nameOf (sym way))
 
 module _ {n : Counts} {u : State} {k : Reference} (h : ReferenceAlike n u k) where
-  own-entered : (c : Command) → enters (slotCount n) (k .ledger) c (nameIn (unitBytes u c)) ≡ enters (slotCount n) (k .ledger) c (displacedName k c)
+  own-entered : (hv : Bool) (c : Command) → enters hv (slotCount n) (k .ledger) c (nameIn (unitBytes hv u c)) ≡ enters hv (slotCount n) (k .ledger) c (displacedName k c)
   unfolding enters does
-  own-entered (command.Write strand number value) = refl
-  own-entered (command.Insert strand side flags word) = by-test (eqb (firstNo (questions (k .ledger) (command.Insert strand side flags word))) 0)
-      (λ t. rw t (own-name _ _ _ _ _ _ (step-says n u k (command.Insert strand side flags word) h .says (eqb-true _ 0 t))))
+  own-entered hv (command.Write strand number value) = refl
+  own-entered hv (command.Insert strand side flags word) = by-test (eqb (firstNo (questions hv (k .ledger) (command.Insert strand side flags word))) 0)
+      (λ t. rw t (own-name _ _ _ _ _ _ (step-says hv n u k (command.Insert strand side flags word) h .says (eqb-true _ 0 t))))
       (λ t. rw t)
-  own-entered (command.DemapPage strand side selector flags address) = refl
-  own-entered (command.DemapContext strand side selector) = refl
-  own-entered (command.DemapAll strand side) = refl
-  own-entered (command.Invalidate side) = refl
-  own-entered (command.Access strand kind selector size address) = refl
-  own-entered (command.Read strand number) = refl
-  own-entered (command.Pointers strand side) = refl
-  own-entered (command.Rate strand side) = refl
+  own-entered hv (command.DemapPage strand side selector flags address) = refl
+  own-entered hv (command.DemapContext strand side selector) = refl
+  own-entered hv (command.DemapAll strand side) = refl
+  own-entered hv (command.Invalidate side) = refl
+  own-entered hv (command.Access strand kind selector size address) = refl
+  own-entered hv (command.Read strand number) = refl
+  own-entered hv (command.Pointers strand side) = refl
+  own-entered hv (command.Rate strand side) = refl
 
-  own-next : (c : Command) → fedNext n u k c ≡ referenceNext (slotCount n) k c
-  own-next c = ap (λ (w : Written). record { ledger = w .ledger; places = placesAfter (slotCount n) k c }) (own-entered c)
+  pub own-next : (hv : Bool) (c : Command) → fedNext hv n u k c ≡ referenceNext hv (slotCount n) k c
+  own-next hv c = ap (λ (w : Written). record { ledger = w .ledger; places = placesAfter hv (slotCount n) k c }) (own-entered hv c)
 
 -- ---- a served miss
 own-served : (n : Counts) (k : Reference) (strand side : ℕ) (m : Miss) (b : Bytes) → MissSays n k strand side m b
@@ -101,16 +101,16 @@ own-served n k strand side (present word) b y = by-test (eqb (firstNo (insertion
     (λ t. rw t)
 
 -- ---- a list of commands
-own-agree : (n : Counts) (u : State) (k : Reference) (cs : List Command) → ReferenceAlike n u k
-    → (fedAfter n u k cs ≡ referenceAfter (slotCount n) k cs) × (ledgerBytes n u k cs ≡ referenceBytes (slotCount n) k cs)
+own-agree : (hv : Bool) (n : Counts) (u : State) (k : Reference) (cs : List Command) → ReferenceAlike n u k
+    → (fedAfter hv n u k cs ≡ referenceAfter hv (slotCount n) k cs) × (ledgerBytes hv n u k cs ≡ referenceBytes hv (slotCount n) k cs)
 unfolding fedAfter referenceAfter ledgerBytes referenceBytes
-own-agree n u k [] h = (refl, refl)
-own-agree n u k (c ∷ cs) h =
-    let s = step-says n u k c h in
-    let (a, b) = own-agree n _ (fedNext n u k c) cs (s .alike) in
-    let e = own-next h c in (
-      a ∙ ap (λ (x : Reference). referenceAfter (slotCount n) x cs) e,
-      ap₂ (λ (x y : Bytes). x ++ y) (ap (λ (w : Written). w .bytes) (own-entered h c)) (b ∙ ap (λ (x : Reference). referenceBytes (slotCount n) x cs) e),
+own-agree hv n u k [] h = (refl, refl)
+own-agree hv n u k (c ∷ cs) h =
+    let s = step-says hv n u k c h in
+    let (a, b) = own-agree hv n _ (fedNext hv n u k c) cs (s .alike) in
+    let e = own-next h hv c in (
+      a ∙ ap (λ (x : Reference). referenceAfter hv (slotCount n) x cs) e,
+      ap₂ (λ (x y : Bytes). x ++ y) (ap (λ (w : Written). w .bytes) (own-entered h hv c)) (b ∙ ap (λ (x : Reference). referenceBytes hv (slotCount n) x cs) e),
     )
 
 -- ---- a run
@@ -124,8 +124,8 @@ module _ (n : Counts) (k : Reference) (g : ReferenceGood (slotCount n) k) where
   good-sound : sound n u ≡ true
   good-sound = alike-sound n u (k .ledger) (alike .ledger)
 
-  next-good : (c : Command) → ReferenceGood (slotCount n) (referenceNext (slotCount n) k c)
-  next-good c = rw (own-next alike c) at (alike-good (step-says n u k c alike .alike))
+  next-good : (hv : Bool) (c : Command) → ReferenceGood (slotCount n) (referenceNext hv (slotCount n) k c)
+  next-good hv c = rw (own-next alike hv c) at (alike-good (step-says hv n u k c alike .alike))
 
   -- ---- a miss
   module _ (strand side : ℕ) (ofZero ofOther : Bytes) where
@@ -154,41 +154,41 @@ module _ (n : Counts) (k : Reference) (g : ReferenceGood (slotCount n) k) where
     part-hands = rw (← (alike-words alike), words-sound n u good-sound, sound-encode n u good-sound) (hands (alike .ledger) strand side ofZero ofOther)
 
   -- ---- a run
-  module _ (input output : Bytes) (t : Reading) (x : ReadAs input (length output) t) where
+  module _ (hv : Bool) (input output : Bytes) (t : Reading) (x : ReadAs input (length output) t) where
     abbrev cs : List Command
     cs = t .commands
 
-    after-alike : ReferenceAlike n (after u cs) (referenceAfter (slotCount n) k cs)
-    after-alike = rw (own-agree n u k cs alike .0) at (commands-agree n u k cs alike .alike)
+    after-alike : ReferenceAlike n (after hv u cs) (referenceAfter hv (slotCount n) k cs)
+    after-alike = rw (own-agree hv n u k cs alike .0) at (commands-agree hv n u k cs alike .alike)
 
-    after-good : ReferenceGood (slotCount n) (referenceAfter (slotCount n) k cs)
+    after-good : ReferenceGood (slotCount n) (referenceAfter hv (slotCount n) k cs)
     after-good = alike-good after-alike
 
     run-leaves :
-        let o : Outcome = runOf n (referenceWords k) input output in
-        Leaves (slotCount n) k input output t (o .words) (o .output) (returned o)
+        let o : Outcome = runOf hv n (referenceWords k) input output in
+        Leaves hv (slotCount n) k input output t (o .words) (o .output) (returned o)
     run-leaves =
         let w : wordsSound n (encode u) ≡ true = words-sound n u good-sound in
         let back : stateOf n (encode u) ≡ u = sound-encode n u good-sound in
         let m : ℕ = length cs * 24 in
-        let o : Outcome = runOf n (encode u) input output in
-        let front : take m (o .output) ≡ answersBytes u cs = rw back at (read-front n (encode u) input output w t x) in
-        let past : drop m (o .output) ≡ drop m output = read-past n (encode u) input output w t x in
-        let words : o .words ≡ encode (after u cs) = rw back at (read-words n (encode u) input output w t x) in
+        let o : Outcome = runOf hv n (encode u) input output in
+        let front : take m (o .output) ≡ answersBytes hv u cs = rw back at (read-front hv n (encode u) input output w t x) in
+        let past : drop m (o .output) ≡ drop m output = read-past hv n (encode u) input output w t x in
+        let words : o .words ≡ encode (after hv u cs) = rw back at (read-words hv n (encode u) input output w t x) in
         rw (← (alike-words alike)) (record {
           words = words ∙ alike-words after-alike;
-          bytes = sym (take-append-drop m (o .output)) ∙ rw (front, past, ← (commands-agree n u k cs alike .bytes), own-agree n u k cs alike .1);
-          answered = read-answered n (encode u) input output w t x;
-          taken = read-taken n (encode u) input output w t x;
-          stop = read-stop n (encode u) input output w t x;
+          bytes = sym (take-append-drop m (o .output)) ∙ rw (front, past, ← (commands-agree hv n u k cs alike .bytes), own-agree hv n u k cs alike .1);
+          answered = read-answered hv n (encode u) input output w t x;
+          taken = read-taken hv n (encode u) input output w t x;
+          stop = read-stop hv n (encode u) input output w t x;
         })
 
-run-told : (n : Counts) (words : List ℕ) (input output : Bytes) →
-    let o : Outcome = runOf n words input output in
-    RunTold (slotCount n) words input output (o .words) (o .output) (returned o)
-run-told n words input output = record {
-  unsound = λ f. rw (run-unsound n words input output (unsound-words n words f)) (refl, refl, refl, refl, refl);
-  sound = λ k g e t x. rw e (run-leaves n k g input output t x);
+run-told : (hv : Bool) (n : Counts) (words : List ℕ) (input output : Bytes) →
+    let o : Outcome = runOf hv n words input output in
+    RunTold hv (slotCount n) words input output (o .words) (o .output) (returned o)
+run-told hv n words input output = record {
+  unsound = λ f. rw (run-unsound hv n words input output (unsound-words n words f)) (refl, refl, refl, refl, refl);
+  sound = λ k g e t x. rw e (run-leaves n k g hv input output t x);
 }
 
 serve-told : (n : Counts) (words : List ℕ) (strand side : ℕ) (ofZero ofOther : Bytes) →
@@ -210,7 +210,7 @@ part-told n words strand side ofZero ofOther = record {
 
 lists-told : (n : Counts) (es : List Event) (k : Reference) → ReferenceGood (slotCount n) k → EventsTold n (slotCount n) k es
 lists-told n [] k g = tt
-lists-told n (run input output ∷ es) k g = λ t x. (run-leaves n k g input output t x, lists-told n es _ (after-good n k g input output t x))
+lists-told n (run hv input output ∷ es) k g = λ t x. (run-leaves n k g hv input output t x, lists-told n es _ (after-good n k g hv input output t x))
 lists-told n (serve strand side ofZero ofOther ∷ es) k g =
     (serve-leaves n k g strand side ofZero ofOther, lists-told n es _ (alike-good (miss-next n k g strand side ofZero ofOther)))
 
@@ -229,17 +229,17 @@ reset-told n words =
 pub told : (n : Counts) → Told n (slotCount n)
 told n = record {
   reset = reset-told n;
-  run = run-told n;
+  run = λ hv. run-told hv n;
   serve = serve-told n;
   part = part-told n;
   start = alike-good (start-alike n);
-  kept = λ k c g. next-good n k g c;
+  kept = λ hv k c g. next-good n k g hv c;
   missed = λ k strand side ofZero ofOther g. alike-good (miss-next n k g strand side ofZero ofOther);
   lists = λ k g es. lists-told n es k g;
 }
 
 -- "64 slots each"
-both-sides : slotCount counts ≡ slots
+pub both-sides : slotCount counts ≡ slots
 both-sides = fun-ext (λ side. by-test (eqb side 0) (λ e. rw e) (λ e. rw e))
 
 pub sold : Told counts slots

@@ -110,117 +110,117 @@ abbrev pub commandsOf : Bytes → Bytes → List Command
 commandsOf input output = takenOf input (length output) .commands
 
 -- ---- what a run from a sound state leaves
-module _ (n : Counts) (words : List ℕ) (input output : Bytes) (h : wordsSound n words ≡ true) where
-  pub run-answered : runOf n words input output .answered ≡ length (commandsOf input output)
+module _ (hv : Bool) (n : Counts) (words : List ℕ) (input output : Bytes) (h : wordsSound n words ≡ true) where
+  pub run-answered : runOf hv n words input output .answered ≡ length (commandsOf input output)
   unfolding runOf finish
   run-answered = rw (h, zero-add)
 
-  pub run-taken : runOf n words input output .taken ≡ takenOf input (length output) .width
+  pub run-taken : runOf hv n words input output .taken ≡ takenOf input (length output) .width
   unfolding runOf finish
   run-taken = rw (h, zero-add)
 
-  pub run-stop : runOf n words input output .stop ≡ takenOf input (length output) .stop
+  pub run-stop : runOf hv n words input output .stop ≡ takenOf input (length output) .stop
   unfolding runOf finish
   run-stop = rw h
 
-  pub run-words : runOf n words input output .words ≡ encode (after (stateOf n words) (commandsOf input output))
+  pub run-words : runOf hv n words input output .words ≡ encode (after hv (stateOf n words) (commandsOf input output))
   unfolding runOf finish
   run-words = rw h
 
-  run-output : runOf n words input output .output ≡ sets output 0 (answersBytes (stateOf n words) (commandsOf input output))
+  run-output : runOf hv n words input output .output ≡ sets output 0 (answersBytes hv (stateOf n words) (commandsOf input output))
   unfolding runOf finish
   run-output = rw h
 
-  pub run-front : take (runOf n words input output .answered * 24) (runOf n words input output .output) ≡ answersBytes (stateOf n words)
+  pub run-front : take (runOf hv n words input output .answered * 24) (runOf hv n words input output .output) ≡ answersBytes hv (stateOf n words)
       (commandsOf input output)
   run-front =
       let cs : List Command = commandsOf input output in
-      rw (run-answered, run-output) (take-sets output _ _ (answers-length cs (stateOf n words)) (takes-room input (length output)))
+      rw (run-answered, run-output) (take-sets output _ _ (answers-length hv cs (stateOf n words)) (takes-room input (length output)))
 
   -- "Unwritten output keeps its bytes."
-  pub run-past : drop (runOf n words input output .answered * 24) (runOf n words input output .output) ≡ drop (runOf n words input output .answered * 24) output
+  pub run-past : drop (runOf hv n words input output .answered * 24) (runOf hv n words input output .output) ≡ drop (runOf hv n words input output .answered * 24) output
   run-past =
       let cs : List Command = commandsOf input output in
       let u : State = stateOf n words in
-      rw (run-answered, run-output) (drop-sets output (answersBytes u cs) _ (answers-length cs u) (takes-room input (length output)))
+      rw (run-answered, run-output) (drop-sets output (answersBytes hv u cs) _ (answers-length hv cs u) (takes-room input (length output)))
 
 -- the answers fit into the output, whatever the state
-pub run-room : (n : Counts) (words : List ℕ) (input output : Bytes) → runOf n words input output .answered * 24 ≤ length output
+pub run-room : (hv : Bool) (n : Counts) (words : List ℕ) (input output : Bytes) → runOf hv n words input output .answered * 24 ≤ length output
 unfolding runOf
-run-room n words input output = by-test (wordsSound n words)
-    (λ h. rw (run-answered n words input output h) (takes-room input (length output)))
+run-room hv n words input output = by-test (wordsSound n words)
+    (λ h. rw (run-answered hv n words input output h) (takes-room input (length output)))
     (λ h. rw h (omega arith))
 
 -- ---- a run, turn by turn
 -- nothing more to take
-finish-ended : (u : State) (output : Bytes) (n at k : ℕ) →
-    finish u output n at (ended k) ≡ record { words = encode u; output = output; answered = n; taken = at; stop = k }
+finish-ended : (hv : Bool) (u : State) (output : Bytes) (n at k : ℕ) →
+    finish hv u output n at (ended k) ≡ record { words = encode u; output = output; answered = n; taken = at; stop = k }
 unfolding finish after answersBytes
-finish-ended u output n at k = rw (add-zero n, add-zero at)
+finish-ended hv u output n at k = rw (add-zero n, add-zero at)
 
 -- one command more
-finish-more : (u : State) (output : Bytes) (n at w : ℕ) (c : Command) (rest : Taken) →
-    finish u output n at (more c w rest)
-    ≡ finish (step u c .state) (sets output (n * 24) (answerBytes (step u c .answer))) (n + 1) (at + w) rest
+finish-more : (hv : Bool) (u : State) (output : Bytes) (n at w : ℕ) (c : Command) (rest : Taken) →
+    finish hv u output n at (more c w rest)
+    ≡ finish hv (step hv u c .state) (sets output (n * 24) (answerBytes (step hv u c .answer))) (n + 1) (at + w) rest
 unfolding finish after answersBytes
-finish-more u output n at w c rest =
-    let a : Bytes = answerBytes (step u c .answer) in
-    let b : Bytes = answersBytes (step u c .state) (rest .commands) in
-    let e : n * 24 + length a ≡ (n + 1) * 24 = omega (arith, answer-length (step u c .answer)) in
+finish-more hv u output n at w c rest =
+    let a : Bytes = answerBytes (step hv u c .answer) in
+    let b : Bytes = answersBytes hv (step hv u c .state) (rest .commands) in
+    let e : n * 24 + length a ≡ (n + 1) * 24 = omega (arith, answer-length (step hv u c .answer)) in
     let s : sets output (n * 24) (a ++ b) ≡ sets (sets output (n * 24) a) ((n + 1) * 24) b = sets-append a b output (n * 24) ∙ rw e in
     let m : n + suc (length (rest .commands)) ≡ n + 1 + length (rest .commands) = omega arith in
     let t : at + (w + rest .width) ≡ at + w + rest .width = omega arith in
     rw (s, m, t)
 
 -- what a run has yet to do that has answered `answered` commands of `at` bytes and stands at u: a turn of the loop leaves this as it is
-unfoldable pub resume : State → Bytes → Bytes → ℕ → ℕ → Outcome
-resume u input output answered at = finish u output answered at (takes (length input - at) input at (length output - answered * 24))
+unfoldable pub resume : Bool → State → Bytes → Bytes → ℕ → ℕ → Outcome
+resume hv u input output answered at = finish hv u output answered at (takes (length input - at) input at (length output - answered * 24))
 
 -- number 1
-pub run-unsound : (n : Counts) (words : List ℕ) (input output : Bytes) → wordsSound n words ≡ false →
-    runOf n words input output ≡ record { words = words; output = output; answered = 0; taken = 0; stop = 1 }
+pub run-unsound : (hv : Bool) (n : Counts) (words : List ℕ) (input output : Bytes) → wordsSound n words ≡ false →
+    runOf hv n words input output ≡ record { words = words; output = output; answered = 0; taken = 0; stop = 1 }
 unfolding runOf
-run-unsound n words input output h = rw h
+run-unsound hv n words input output h = rw h
 
-pub resume-start : (n : Counts) (words : List ℕ) (input output : Bytes) → wordsSound n words ≡ true →
-    resume (stateOf n words) input output 0 0 ≡ runOf n words input output
+pub resume-start : (hv : Bool) (n : Counts) (words : List ℕ) (input output : Bytes) → wordsSound n words ≡ true →
+    resume hv (stateOf n words) input output 0 0 ≡ runOf hv n words input output
 unfolding resume runOf
-resume-start n words input output h =
+resume-start hv n words input output h =
     let a : length input - 0 ≡ length input = omega arith in
     let b : length output - 0 ≡ length output = omega arith in
     rw (h, a, b)
 
-module _ (u : State) (input output : Bytes) (answered at : ℕ) where
+module _ (hv : Bool) (u : State) (input output : Bytes) (answered at : ℕ) where
   abbrev room : ℕ
   room = length output - answered * 24
 
   -- the run ends here, with a number
   abbrev pub Over : ℕ → Type 0
-  Over k = resume u input output answered at ≡ record { words = encode u; output = output; answered = answered; taken = at; stop = k }
+  Over k = resume hv u input output answered at ≡ record { words = encode u; output = output; answered = answered; taken = at; stop = k }
 
-  resumes : {t : Taken} → Takes input at room t → resume u input output answered at ≡ finish u output answered at t
+  resumes : {t : Taken} → Takes input at room t → resume hv u input output answered at ≡ finish hv u output answered at t
   unfolding resume
-  resumes r = ap (finish u output answered at) (takes-only input (length input - at) r (omega arith))
+  resumes r = ap (finish hv u output answered at) (takes-only input (length input - at) r (omega arith))
 
   pub resume-end : length input ≤ at → Over 0
-  resume-end h = resumes (at-end h) ∙ finish-ended u output answered at 0
+  resume-end h = resumes (at-end h) ∙ finish-ended hv u output answered at 0
 
   module _ (h : at < length input) where
     -- numbers 2 and 3
     pub resume-stop : {k : ℕ} → decodeAt input at ≡ Stop k → Over k
-    resume-stop {k} e = resumes (at-stop h e) ∙ finish-ended u output answered at k
+    resume-stop {k} e = resumes (at-stop h e) ∙ finish-ended hv u output answered at k
 
     -- number 4
     pub resume-full : {c : Command} {width : ℕ} → decodeAt input at ≡ Known c width → length output - answered * 24 < 24 → Over 4
-    resume-full e f = resumes (no-room h e f) ∙ finish-ended u output answered at 4
+    resume-full e f = resumes (no-room h e f) ∙ finish-ended hv u output answered at 4
 
     -- a command answered
     pub resume-turn : {c : Command} {width : ℕ} → decodeAt input at ≡ Known c width → answered * 24 + 24 ≤ length output →
-        resume u input output answered at
-        ≡ resume (step u c .state) input (sets output (answered * 24) (answerBytes (step u c .answer))) (answered + 1) (at + width)
+        resume hv u input output answered at
+        ≡ resume hv (step hv u c .state) input (sets output (answered * 24) (answerBytes (step hv u c .answer))) (answered + 1) (at + width)
     unfolding resume
     resume-turn {c} {width} e f =
-        let k : room - 24 ≡ length (sets output (answered * 24) (answerBytes (step u c .answer))) - (answered + 1) * 24 =
+        let k : room - 24 ≡ length (sets output (answered * 24) (answerBytes (step hv u c .answer))) - (answered + 1) * 24 =
         rw length-sets (omega arith) in
         resumes (one h e (omega arith) (takes-all input (length input - (at + width)) (omega arith)))
-        ∙ finish-more u output answered at width c _ ∙ rw k
+        ∙ finish-more hv u output answered at width c _ ∙ rw k

@@ -258,9 +258,9 @@ ask-fine (q ∷ qs) h = by-test (q .fine)
     (λ e. and-both _ _ e (ask-fine qs (rw e at h)))
     (λ e. let r : Refused (q .refusal) ≡ Passed = rw e at h in absurd (let z : _≡_ {A = ℕ} 0 1 = cc in omega arith))
 
-pub passed-asked : (u : State) (c : Command) → verdict u c ≡ Passed → allOf isFine (asked u c) ≡ true
+pub passed-asked : (hv : Bool) (u : State) (c : Command) → verdict hv u c ≡ Passed → allOf isFine (asked hv u c) ≡ true
 unfolding verdict
-passed-asked u c h = ask-fine (asked u c) h
+passed-asked hv u c h = ask-fine (asked hv u c) h
 
 -- .. and of an insertion, what 11 to 13 let pass
 pub record Insertable (u : State) (strand side flags word : ℕ) : Type 0 where
@@ -274,12 +274,12 @@ insertable u strand side flags word h =
     let q = ask-fine (askedInsertion u strand side flags word) h in
     record { address = search conj; tte = search conj; slot = search conj }
 
-pub insert-insertable : (u : State) (strand side flags word : ℕ) → verdict u (command.Insert strand side flags word) ≡ Passed
+pub insert-insertable : (hv : Bool) (u : State) (strand side flags word : ℕ) → verdict hv u (command.Insert strand side flags word) ≡ Passed
     → (strand < 4) × (side < 2) × Insertable u strand side flags word
 unfolding asked askedInsertion allOf
-insert-insertable u strand side flags word h =
-    let q = passed-asked u (command.Insert strand side flags word) h in
-    (search conj, search conj, record { address = search conj; tte = search conj; slot = search conj })
+insert-insertable hv u strand side flags word h =
+    let q = passed-asked hv u (command.Insert strand side flags word) h in
+    (search conj, search conj, record { address = search conj; tte = search conj depth 6; slot = search conj depth 7 })
 
 -- number 13 asks what the insertion would come to: one that 11 and 12 let pass may act unasked
 pub insert-acts : (u : State) (strand side flags word : ℕ) → inRange (tagAddress (tagAccess (u .registers) strand side) .0) ≡ true

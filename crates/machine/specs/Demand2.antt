@@ -2,7 +2,7 @@
 -- Assumes nothing.
 use Prim.Native.Nat.{ℕ, _+_, _^_, _<_}
 use mathlib.Core.Path.{_≡_}
-use mathlib.Core.Bool.{true, cond}
+use mathlib.Core.Bool.{Bool, true, cond}
 use lib.Dec.{ltb}
 use Rattle.machine.specs.Words.{unpacked, packed, fields}
 use Rattle.machine.specs.State.{Counts, State, sound}
@@ -46,4 +46,5 @@ pub record Demand2 : Type 0 where
   -- a word unpacked and packed again is that word
   pub back : (w : ℕ) → w < 2 ^ 64 → packed (unpacked w) ≡ w
   -- the address of a hit and of a bypass
-  pub physical : (n : Counts) (u : State) (c : Command) (t : Translation) → sound n u ≡ true → step u c .answer ≡ answer.Physical t → t .address .0 < 2 ^ 40
+  pub physical : (hv : Bool) (n : Counts) (u : State) (c : Command) (t : Translation) → sound n u ≡ true → step hv u c .answer ≡ answer.Physical t
+      → t .address .0 < 2 ^ 40

@@ -2,7 +2,7 @@
 -- Assumes nothing.
 use Prim.Native.Nat.{ℕ, _*_, _-_, _≤_, _<_}
 use mathlib.Core.Path.{_≡_}
-use mathlib.Core.Bool.{true}
+use mathlib.Core.Bool.{Bool, true}
 use mathlib.Core.Option.{some}
 use mathlib.Core.List.{List, [], _∷_, _++_}
 use mathlib.Core.Logic.{_↔_}
@@ -22,32 +22,32 @@ use Rattle.machine.specs.Good.{ReferenceGood, GoodWords}
 use Rattle.machine.specs.declared.Command.{Command}
 
 -- ---- the ledger beside the unit
--- the unit's answer to a command
-abbrev pub unitBytes : State → Command → Bytes
-unitBytes u c = answerBytes (step u c .answer)
+-- the unit's answer to a command of a stream with or without the mark
+abbrev pub unitBytes : Bool → State → Command → Bytes
+unitBytes hv u c = answerBytes (step hv u c .answer)
 
--- the ledger is fed the command and the entry that the unit's bytes name as displaced
-abbrev pub fed : Counts → State → Reference → Command → Written
-fed n u k c = enters (slotCount n) (k .ledger) c (nameIn (unitBytes u c))
+-- the ledger is fed the command, the stream's mark, and the entry that the unit's bytes name as displaced
+abbrev pub fed : Bool → Counts → State → Reference → Command → Written
+fed hv n u k c = enters hv (slotCount n) (k .ledger) c (nameIn (unitBytes hv u c))
 
 -- ledger and places after it
-abbrev pub fedNext : Counts → State → Reference → Command → Reference
-fedNext n u k c = referenceTold (slotCount n) k c (nameIn (unitBytes u c))
+abbrev pub fedNext : Bool → Counts → State → Reference → Command → Reference
+fedNext hv n u k c = referenceTold hv (slotCount n) k c (nameIn (unitBytes hv u c))
 
-unfoldable pub fedAfter : Counts → State → Reference → List Command → Reference
-fedAfter n u k [] = k
-fedAfter n u k (c ∷ cs) = fedAfter n (step u c .state) (fedNext n u k c) cs
+unfoldable pub fedAfter : Bool → Counts → State → Reference → List Command → Reference
+fedAfter hv n u k [] = k
+fedAfter hv n u k (c ∷ cs) = fedAfter hv n (step hv u c .state) (fedNext hv n u k c) cs
 
-unfoldable pub ledgerBytes : Counts → State → Reference → List Command → Bytes
-ledgerBytes n u k [] = []
-ledgerBytes n u k (c ∷ cs) = fed n u k c .bytes ++ ledgerBytes n (step u c .state) (fedNext n u k c) cs
+unfoldable pub ledgerBytes : Bool → Counts → State → Reference → List Command → Bytes
+ledgerBytes hv n u k [] = []
+ledgerBytes hv n u k (c ∷ cs) = fed hv n u k c .bytes ++ ledgerBytes hv n (step hv u c .state) (fedNext hv n u k c) cs
 
 -- ---- one command
 -- live: in the ledger's list of the side just before the command
 abbrev pub Live : Entry → List Entry → Type 0
 Live e m = (i : ℕ) × (i < length m) × (getD m i e ≡ e)
 
--- an insertion that 1 to 12 do not refuse: s are the places, m was live, e is new, b the unit's answer
+-- an insertion that neither 1 to 12 nor 16 refuses: s are the places, m was live, e is new, b the unit's answer
 pub record InsertionSays (n : ℕ) (s : List Place) (m : List Entry) (e : Entry) (b : Bytes) : Type 0 where
   -- it names a displaced entry just where every slot was taken, none overlapped, and an entry was unlocked
   pub displaced : (getD b 0 0 ≡ 4) ↔ ((length m ≡ n) × (howMany (overlap e) m ≡ 0) × (1 ≤ howMany unlocked m))
@@ -63,7 +63,7 @@ pub record AccessSays (l : Ledger) (a : Asked) (b : Bytes) : Type 0 where
   pub hit : (e : Entry) → Live e (l .entries (askedSide a)) → foundBy l a e ≡ true → b ≡ hits l a e .bytes
   pub missed : (b ≡ misses l a .bytes) ↔ (howMany (foundBy l a) (l .entries (askedSide a)) ≡ 0)
 
--- of a command that none of 5 to 12 and 15 refused
+-- of a command that none of 5 to 12, 15 and 16 refused
 abbrev pub SaysOf : Counts → Reference → View → Bytes → Type 0
 SaysOf n k (insertion strand side flags word) b =
     InsertionSays (slotCount n side) (k .places side) (k .ledger .entries side) (newEntry (k .ledger) strand side flags word) b
@@ -72,27 +72,28 @@ SaysOf n k (access strand kind selector size address) b =
     looksUp (k .ledger) a ≡ true → AccessSays (k .ledger) a b
 SaysOf n k other b = Unit {0}
 
-abbrev pub Says : Counts → Reference → Command → Bytes → Type 0
-Says n k c b = firstNo (questions (k .ledger) c) ≡ 0 → SaysOf n k (view c) b
+abbrev pub Says : Bool → Counts → Reference → Command → Bytes → Type 0
+Says hv n k c b = firstNo (questions hv (k .ledger) c) ≡ 0 → SaysOf n k (view c) b
 
 -- before and after each command the state has the words of ledger and places; its 24 bytes are the ledger's; what is said of insertions and accesses holds
-abbrev pub CommandsSay : Counts → State → Reference → List Command → Type 0
-CommandsSay n u k [] = encode u ≡ referenceWords k
-CommandsSay n u k (c ∷ cs) =
-    (encode u ≡ referenceWords k) × (fed n u k c .bytes ≡ unitBytes u c) × Says n k c (unitBytes u c) × CommandsSay n (step u c .state) (fedNext n u k c) cs
+abbrev pub CommandsSay : Bool → Counts → State → Reference → List Command → Type 0
+CommandsSay hv n u k [] = encode u ≡ referenceWords k
+CommandsSay hv n u k (c ∷ cs) =
+    (encode u ≡ referenceWords k) × (fed hv n u k c .bytes ≡ unitBytes hv u c) × Says hv n k c (unitBytes hv u c)
+    × CommandsSay hv n (step hv u c .state) (fedNext hv n u k c) cs
 
 -- ---- one run
 -- of bytes that are read as t
-pub record RunSays (n : Counts) (words : List ℕ) (k : Reference) (input output : Bytes) (t : Reading) : Type 0 where
+pub record RunSays (hv : Bool) (n : Counts) (words : List ℕ) (k : Reference) (input output : Bytes) (t : Reading) : Type 0 where
   -- each run finds its words sound
-  pub sound : runOf n words input output .stop ≡ 1 → ⊥
-  pub stop : runOf n words input output .stop ≡ t .stop
-  pub taken : runOf n words input output .taken ≡ length input - length (t .rest)
-  pub answered : runOf n words input output .answered ≡ length (t .commands)
+  pub sound : runOf hv n words input output .stop ≡ 1 → ⊥
+  pub stop : runOf hv n words input output .stop ≡ t .stop
+  pub taken : runOf hv n words input output .taken ≡ length input - length (t .rest)
+  pub answered : runOf hv n words input output .answered ≡ length (t .commands)
   -- the answers stand in front and are the ledger's; behind them the output is as it was lent
-  pub front : take (length (t .commands) * 24) (runOf n words input output .output) ≡ ledgerBytes n (stateOf n words) k (t .commands)
-  pub past : drop (length (t .commands) * 24) (runOf n words input output .output) ≡ drop (length (t .commands) * 24) output
-  pub commands : CommandsSay n (stateOf n words) k (t .commands)
+  pub front : take (length (t .commands) * 24) (runOf hv n words input output .output) ≡ ledgerBytes hv n (stateOf n words) k (t .commands)
+  pub past : drop (length (t .commands) * 24) (runOf hv n words input output .output) ≡ drop (length (t .commands) * 24) output
+  pub commands : CommandsSay hv n (stateOf n words) k (t .commands)
 
 -- ---- one served miss
 -- the unit's answer, from any words
@@ -113,16 +114,16 @@ pub record ServeSays (n : Counts) (k : Reference) (strand side : ℕ) (m : Miss)
   pub says : MissSays n k strand side m b
 
 -- ---- every list
--- what a caller does: a run, with its bytes and the output that it lends; or the serving of a miss, of a strand and a side, with its two tables
+-- what a caller does: a run, with the stream's mark, its bytes and the output that it lends; or the serving of a miss, of a strand and a side, with its two tables
 pub data Event : Type 0 where
-  run : Bytes → Bytes → Event
+  run : Bool → Bytes → Bytes → Event
   serve : ℕ → ℕ → Bytes → Bytes → Event
 
 -- one event: what is said of it, and then of the words and the reference that it leaves
 abbrev pub EventSays : Counts → List ℕ → Reference → Event → (List ℕ → Reference → Type 0) → Type 0
-EventSays n words k (run input output) Then =
+EventSays n words k (run hv input output) Then =
     (t : Reading) → ReadAs input (length output) t
-    → RunSays n words k input output t × Then (runOf n words input output .words) (fedAfter n (stateOf n words) k (t .commands))
+    → RunSays hv n words k input output t × Then (runOf hv n words input output .words) (fedAfter hv n (stateOf n words) k (t .commands))
 EventSays n words k (serve strand side ofZero ofOther) Then =
     let b : Bytes = missBytes n words strand side ofZero ofOther in
     let m : Miss = miss (k .ledger) strand side ofZero ofOther in

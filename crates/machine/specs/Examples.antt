@@ -2,8 +2,9 @@
 -- Assumes nothing.
 use Prim.Native.Nat.{ℕ}
 use mathlib.Core.Path.{_≡_}
-use mathlib.Core.Bool.{true, false}
+use mathlib.Core.Bool.{Bool, true, false}
 use mathlib.Core.List.{[], _∷_}
+use lib.Dec.{ltb}
 use lib.ListN.{replicate}
 use Rattle.machine.specs.Pages.{inRange}
 use Rattle.machine.specs.Words.{bits, physicalAt}
@@ -33,9 +34,9 @@ pub record Starred : Type 0 where
   -- first example: the last address before the hole, the first and the last in it, the first behind it
   pub range : (inRange 0x0000_7FFF_FFFF_FFFF ≡ true) × (inRange 0x0000_8000_0000_0000 ≡ false)
       × (inRange 0xFFFF_7FFF_FFFF_FFFF ≡ false) × (inRange 0xFFFF_8000_0000_0000 ≡ true)
-  -- second: the largest context is accepted, one more gets number 10
-  pub accepted : (u : State) → verdict u (command.Write 0 1 8191) ≡ Passed
-  pub refused : (u : State) → (r : Refusal) × (verdict u (command.Write 0 1 8192) ≡ Refused r) × (refusalNumber r ≡ 10)
+  -- second: the largest context is accepted of a strand that may write it (document 02, U6), one more gets number 10 in every mode
+  pub accepted : (hv : Bool) (u : State) → ltb 0 (mode (u .registers) 0) ≡ true → verdict hv u (command.Write 0 1 8191) ≡ Passed
+  pub refused : (hv : Bool) (u : State) → (r : Refusal) × (verdict hv u (command.Write 0 1 8192) ≡ Refused r) × (refusalNumber r ≡ 10)
   -- third: a 4 MB page whose word's address is not at a page start
   pub large : physicalAt 0x8000_0000_1240_2003 (record { 0 = 0x8040_1234 }) .0 ≡ 0x1240_1234
   -- fourth: p stops a user's store before w does; bit 8 is p, bit 6 is w, and registers that are all zero are a user's
@@ -46,7 +47,8 @@ pub record Starred : Type 0 where
   -- sixth: the pointer of one page by a base with N 0, then by the same base with N 1
   pub pointers : (tsbPointer 0x1000_0000 0 0x40_2000 ≡ 0x1000_0010) × (tsbPointer 0x1000_0001 0 0x40_2000 ≡ 0x1000_2010)
 
--- ---- the printed run: the bytes that "Examples" shows, and the five answers as bytes
+-- ---- the printed run: the bytes that "Examples" shows, and the five answers as bytes. The strand is a user's by then: its insertion gets number 16, and
+-- what missed misses again (document 02, U6)
 unfoldable pub given : Bytes
 given =
     0x01 ∷ 0 ∷ 4 ∷ 0 ∷ 0 ∷ 0 ∷ 0 ∷ 0 ∷ 0 ∷ 0 ∷ 3
@@ -60,11 +62,11 @@ printed =
     0 ∷ 0 ∷ 0 ∷ 0 ∷ 0 ∷ 0 ∷ 0 ∷ 0 ∷ 0 ∷ 0 ∷ 0 ∷ 0 ∷ 0 ∷ 0 ∷ 0 ∷ 0 ∷ 0 ∷ 0 ∷ 0 ∷ 0 ∷ 0 ∷ 0 ∷ 0 ∷ 0
     ∷ 0 ∷ 0 ∷ 0 ∷ 0 ∷ 0 ∷ 0 ∷ 0 ∷ 0 ∷ 0 ∷ 0 ∷ 0 ∷ 0 ∷ 0 ∷ 0 ∷ 0 ∷ 0 ∷ 0 ∷ 0 ∷ 0 ∷ 0 ∷ 0 ∷ 0 ∷ 0 ∷ 0
     ∷ 0x02 ∷ 0x68 ∷ 0 ∷ 0 ∷ 0 ∷ 0 ∷ 0 ∷ 0 ∷ 0 ∷ 0 ∷ 0 ∷ 0 ∷ 0 ∷ 0x40 ∷ 0x20 ∷ 0x08 ∷ 0 ∷ 0 ∷ 0 ∷ 0 ∷ 0 ∷ 0x40 ∷ 0x20 ∷ 0
-    ∷ 0 ∷ 0 ∷ 0 ∷ 0 ∷ 0 ∷ 0 ∷ 0 ∷ 0 ∷ 0 ∷ 0 ∷ 0 ∷ 0 ∷ 0 ∷ 0 ∷ 0 ∷ 0 ∷ 0 ∷ 0 ∷ 0 ∷ 0 ∷ 0 ∷ 0 ∷ 0 ∷ 0
-    ∷ 0x01 ∷ 0x01 ∷ 0 ∷ 0 ∷ 0 ∷ 0 ∷ 0 ∷ 0 ∷ 0 ∷ 0 ∷ 0 ∷ 0 ∷ 0 ∷ 0x08 ∷ 0 ∷ 0x08 ∷ 0 ∷ 0 ∷ 0 ∷ 0 ∷ 0 ∷ 0 ∷ 0 ∷ 0 ∷ []
+    ∷ 0x05 ∷ 0x10 ∷ 0 ∷ 0 ∷ 0 ∷ 0 ∷ 0 ∷ 0 ∷ 0 ∷ 0 ∷ 0 ∷ 0 ∷ 0 ∷ 0 ∷ 0 ∷ 0 ∷ 0 ∷ 0 ∷ 0 ∷ 0 ∷ 0 ∷ 0 ∷ 0 ∷ 0
+    ∷ 0x02 ∷ 0x68 ∷ 0 ∷ 0 ∷ 0 ∷ 0 ∷ 0 ∷ 0 ∷ 0 ∷ 0 ∷ 0 ∷ 0 ∷ 0 ∷ 0x40 ∷ 0x20 ∷ 0x08 ∷ 0 ∷ 0 ∷ 0 ∷ 0 ∷ 0 ∷ 0x40 ∷ 0x20 ∷ 0 ∷ []
 
--- from reset, with room for five answers and nothing more; the three numbers are those of its line `end`
+-- from reset, without the stream's mark, with room for five answers and nothing more; the three numbers are those of its line `end`
 unfoldable pub PrintedRun : Type 0
 PrintedRun =
-    let o : Outcome = runOf counts (encode (reset counts)) given (replicate 120 0xFF) in
+    let o : Outcome = runOf false counts (encode (reset counts)) given (replicate 120 0xFF) in
     (o .output ≡ printed) × (o .answered ≡ 5) × (o .taken ≡ 60) × (o .stop ≡ 0)

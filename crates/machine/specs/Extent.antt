@@ -43,8 +43,8 @@ pub record Extent (n : Counts) : Type 0 where
       → accesses after (record { strand = q .strand; kind = q .kind; selector = q .selector; size = size; used = used }) .bytes
       ≡ line 1 attributes 0 code (address - q .used % codeBytes code + used % codeBytes code) 0
   -- so it is for as long as no command disturbs it
-  pub commands : (k : Reference) (cs : List Command) (strand side : ℕ) → nonePasses (disturbs strand side) cs ≡ true
-      → Undisturbed strand side (k .ledger) (referenceAfter (slotCount n) k cs .ledger)
+  pub commands : (hv : Bool) (k : Reference) (cs : List Command) (strand side : ℕ) → nonePasses (disturbs strand side) cs ≡ true
+      → Undisturbed strand side (k .ledger) (referenceAfter hv (slotCount n) k cs .ledger)
   -- and no miss is served on the side
   pub miss : (k : Reference) (at served : ℕ) (ofZero ofOther : Bytes) (strand side : ℕ) → eqb served side ≡ false
       → Undisturbed strand side (k .ledger) (missNext (slotCount n) k at served ofZero ofOther .ledger)

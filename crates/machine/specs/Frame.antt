@@ -2,7 +2,7 @@
 -- Assumes nothing.
 use Prim.Native.Nat.{ℕ, _<_}
 use mathlib.Core.Path.{_≡_}
-use mathlib.Core.Bool.{true, false}
+use mathlib.Core.Bool.{Bool, true, false}
 use mathlib.Core.List.{List}
 use mathlib.Core.Logic.{_⊎_}
 use lib.Dec.{eqb}
@@ -62,8 +62,8 @@ pub data Removes (u : State) (side : ℕ) (e : Entry) : Command → Type 0 where
 -- ---- the laws on one command and one served miss that later ones are inductions over
 -- a live entry stays, with the same word, or a command that was accepted is one of those, or the miss was served by an insertion that is
 pub record Framed : Type 0 where
-  pub byCommand : (n : Counts) (u : State) (c : Command) (side : ℕ) (e : Entry) → sound n u ≡ true → side < 2 → Lives u side e
-      → Lives (step u c .state) side e ⊎ ((verdict u c ≡ Passed) × Removes u side e c)
+  pub byCommand : (hv : Bool) (n : Counts) (u : State) (c : Command) (side : ℕ) (e : Entry) → sound n u ≡ true → side < 2 → Lives u side e
+      → Lives (step hv u c .state) side e ⊎ ((verdict hv u c ≡ Passed) × Removes u side e c)
   pub byMiss : (n : Counts) (u : State) (strand at : ℕ) (ofZero ofOther : Bytes) (side : ℕ) (e : Entry) → sound n u ≡ true → side < 2 → Lives u side e
       → Lives (serve u strand at ofZero ofOther .state) side e
       ⊎ ((word : ℕ) × (serve u strand at ofZero ofOther ≡ act u (command.Insert strand at 0 word)) × Removes u side e (command.Insert strand at 0 word))
@@ -71,6 +71,6 @@ pub record Framed : Type 0 where
 -- reset is sound, and every command and served miss, refused or not, leaves a sound state
 pub record SoundKept : Type 0 where
   pub byReset : (n : Counts) → sound n (reset n) ≡ true
-  pub byCommand : (n : Counts) (u : State) (c : Command) → sound n u ≡ true → sound n (step u c .state) ≡ true
+  pub byCommand : (hv : Bool) (n : Counts) (u : State) (c : Command) → sound n u ≡ true → sound n (step hv u c .state) ≡ true
   pub byMiss : (n : Counts) (u : State) (strand side : ℕ) (ofZero ofOther : Bytes) → sound n u ≡ true
       → sound n (serve u strand side ofZero ofOther .state) ≡ true

@@ -156,7 +156,7 @@ isNamed d e =
     eqb (d .partition) (e .partition)
     && (eqb (d .real) (oneIf (e .real)) && (eqb (d .place) (e .page + e .context) && eqb (d .word) (e .word)))
 
--- ---- questions 5 to 13 and 15, by the registers and lists of the ledger
+-- ---- questions 5 to 13, 15 and 16, by the registers and lists of the ledger and the stream's mark
 -- the entry of an insertion: by the strand's partition and tag access; the word's size code says where the page starts
 unfoldable pub newEntry : Ledger → ℕ → ℕ → ℕ → ℕ → Entry
 newEntry l strand side flags word =
@@ -187,23 +187,35 @@ insertionQuestions l strand side word = (11, addressGood (tagOf l strand side - 
 abbrev pub recent : Ledger → ℕ → ℕ → List Bool
 recent l strand side = take 1024 (l .lookups strand side)
 
--- 5 to 12, and 15
-unfoldable pub questions : Ledger → Command → List (ℕ × Bool)
-questions l (command.Write strand number value) = (5, leb strand 3) ∷ (9, registerWritable number) ∷ (10, valueGood number value) ∷ []
-questions l (command.Insert strand side flags word) =
-    (5, leb strand 3) ∷ (6, leb side 1) ∷ (8, leb flags 3) ∷ insertionQuestions l strand side word
-questions l (command.DemapPage strand side selector flags address) =
-    (5, leb strand 3) ∷ (6, leb side 1) ∷ (7, selectorGood side selector) ∷ (8, leb flags 1) ∷ (11, addressGood (address .0)) ∷ []
-questions l (command.DemapContext strand side selector) = (5, leb strand 3) ∷ (6, leb side 1) ∷ (7, selectorGood side selector) ∷ []
-questions l (command.DemapAll strand side) = (5, leb strand 3) ∷ (6, leb side 1) ∷ []
-questions l (command.Invalidate side) = (6, leb side 1) ∷ []
-questions l (command.Access strand kind selector size address) =
+-- 16, of a strand (document 02, U6): not in mode 0; in mode 1 what a guest may do; else all
+abbrev pub modeAllows : Ledger → ℕ → Bool → Bool
+modeAllows l strand guest = cond (eqb (l .registers strand 3) 0) false (cond (eqb (l .registers strand 3) 1) guest true)
+
+-- both contexts, the mask, and 8 to 21
+abbrev pub guestWrites : ℕ → Bool
+guestWrites r = (eqb r 1 || eqb r 2) || (eqb r 5 || (leb 8 r && leb r 21))
+
+-- 5 to 12, 15 and 16. hv is the stream's mark: its commands are the hypervisor's; only an invalidation goes by it
+unfoldable pub questions : Bool → Ledger → Command → List (ℕ × Bool)
+questions hv l (command.Write strand number value) =
+    (5, leb strand 3) ∷ (9, registerWritable number) ∷ (10, valueGood number value) ∷ (16, modeAllows l strand (guestWrites number)) ∷ []
+questions hv l (command.Insert strand side flags word) =
+    (5, leb strand 3) ∷ (6, leb side 1) ∷ (8, leb flags 3) ∷ (16, modeAllows l strand (eqb flags 0)) ∷ insertionQuestions l strand side word
+questions hv l (command.DemapPage strand side selector flags address) =
+    (5, leb strand 3) ∷ (6, leb side 1) ∷ (7, selectorGood side selector) ∷ (8, leb flags 1)
+    ∷ (16, modeAllows l strand true) ∷ (11, addressGood (address .0)) ∷ []
+questions hv l (command.DemapContext strand side selector) =
+    (5, leb strand 3) ∷ (6, leb side 1) ∷ (7, selectorGood side selector) ∷ (16, modeAllows l strand true) ∷ []
+questions hv l (command.DemapAll strand side) = (5, leb strand 3) ∷ (6, leb side 1) ∷ (16, modeAllows l strand false) ∷ []
+questions hv l (command.Invalidate side) = (6, leb side 1) ∷ (16, hv) ∷ []
+questions hv l (command.Access strand kind selector size address) =
     (5, leb strand 3) ∷ (6, leb kind 4)
     ∷ (7, selectorGood (cond (eqb kind 0) 0 1) selector && not (eqb selector 2 && (eqb (l .registers strand 3) 0 && eqb kind 0)))
     ∷ (8, leb size 3 && (not (eqb kind 0) || eqb size 2)) ∷ []
-questions l (command.Read strand number) = (5, leb strand 3) ∷ (9, registerKnown number) ∷ []
-questions l (command.Pointers strand side) = (5, leb strand 3) ∷ (6, leb side 1) ∷ []
-questions l (command.Rate strand side) = (5, leb strand 3) ∷ (6, leb side 1) ∷ (15, leb 1 (length (recent l strand side))) ∷ []
+questions hv l (command.Read strand number) = (5, leb strand 3) ∷ (9, registerKnown number) ∷ []
+questions hv l (command.Pointers strand side) = (5, leb strand 3) ∷ (6, leb side 1) ∷ (16, modeAllows l strand true) ∷ []
+questions hv l (command.Rate strand side) =
+    (5, leb strand 3) ∷ (6, leb side 1) ∷ (16, modeAllows l strand true) ∷ (15, leb 1 (length (recent l strand side))) ∷ []
 
 -- 13: as many entries as slots, none of them unlocked, and none that the new one overlaps
 abbrev pub lacksSlot : ℕ → Entry → List Entry → Bool
@@ -393,9 +405,9 @@ does n l (command.Pointers strand side) d = pointers l strand side
 does n l (command.Rate strand side) d = answers l (line 3 0 0 0 (thousandths (recent l strand side)) 0)
 
 -- a command, by the first question that is answered no; if there is one, the ledger stays
-unfoldable pub enters : (ℕ → ℕ) → Ledger → Command → Name → Written
-enters n l c d =
-    let number : ℕ = firstNo (questions l c) in
+unfoldable pub enters : Bool → (ℕ → ℕ) → Ledger → Command → Name → Written
+enters hv n l c d =
+    let number : ℕ = firstNo (questions hv l c) in
     cond (eqb number 0) (does n l c d) (answers l (line 5 number 0 0 0 0))
 
 -- ---- a miss, served from two lent tables: of context zero, and of the others (document 02, U1)

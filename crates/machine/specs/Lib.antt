@@ -6,6 +6,7 @@ pub mod Sound
 pub mod Registers
 pub mod Record
 pub mod State
+pub mod Permission
 pub mod Questions
 pub mod Access
 pub mod Tsb
@@ -25,4 +26,5 @@ pub mod Demand2
 pub mod Examples
 pub mod Frame
 pub mod Lookups
+pub mod Guests
 pub mod Format

@@ -2,7 +2,7 @@
 -- Assumes nothing.
 use Prim.Native.Nat.{ℕ, _<_}
 use mathlib.Core.Path.{_≡_}
-use mathlib.Core.Bool.{true}
+use mathlib.Core.Bool.{Bool, true}
 use mathlib.Core.Logic.{_⊎_}
 use lib.ListN.{getD}
 use Rattle.machine.specs.Record.{recordOf, olderOf}
@@ -25,15 +25,15 @@ pub record SameRecord (strand side : ℕ) (u v : State) : Type 0 where
   pub older : olderOf (v .records .older) (recordOf strand side) ≡ olderOf (u .records .older) (recordOf strand side)
 
 -- the command is an access by the strand on the side that is not refused, and that no step before the lookup ends
-pub data LooksUp (u : State) (strand side : ℕ) : Command → Type 0 where
-  looksUp : {kind selector size : ℕ} {address : VirtualAddress} → verdict u (command.Access strand kind selector size address) ≡ Passed
+pub data LooksUp (hv : Bool) (u : State) (strand side : ℕ) : Command → Type 0 where
+  looksUp : {kind selector size : ℕ} {address : VirtualAddress} → verdict hv u (command.Access strand kind selector size address) ≡ Passed
       → kindSide kind ≡ side
       → prepare (u .registers) (accessOf (u .registers) strand kind selector size address) ≡ Lookup
-      → LooksUp u strand side (command.Access strand kind selector size address)
+      → LooksUp hv u strand side (command.Access strand kind selector size address)
 
 pub record Lookups : Type 0 where
   -- nothing else changes it: no other command, none that is refused, and none of another strand or side
-  pub byCommand : (n : Counts) (u : State) (c : Command) (strand side : ℕ) → sound n u ≡ true → strand < 4 → side < 2
-      → SameRecord strand side u (step u c .state) ⊎ LooksUp u strand side c
+  pub byCommand : (hv : Bool) (n : Counts) (u : State) (c : Command) (strand side : ℕ) → sound n u ≡ true → strand < 4 → side < 2
+      → SameRecord strand side u (step hv u c .state) ⊎ LooksUp hv u strand side c
   -- and a served miss changes none
   pub byMiss : (u : State) (strand side : ℕ) (ofZero ofOther : Bytes) → serve u strand side ofZero ofOther .state .records ≡ u .records

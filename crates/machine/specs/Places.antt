@@ -91,7 +91,7 @@ each k side f = withPlaces (k .places) side (map f (k .places side))
 abbrev pub accessed : Reference → Asked → ℕ → List Place
 accessed k a = cond (looksUp (k .ledger) a) (each k (askedSide a) (usedWhere (foundBy (k .ledger) a))) (k .places)
 
--- of a command that none of 5 to 12 and 15 refused: what the ledger strikes leaves an empty place; n is the slot count of each side
+-- of a command that none of 5 to 12, 15 and 16 refused: what the ledger strikes leaves an empty place; n is the slot count of each side
 unfoldable pub moved : (ℕ → ℕ) → Reference → Command → ℕ → List Place
 moved n k (command.Write strand number value) = k .places
 moved n k (command.Insert strand side flags word) =
@@ -111,8 +111,8 @@ moved n k (command.Pointers strand side) = k .places
 moved n k (command.Rate strand side) = k .places
 
 -- a refused command leaves them
-unfoldable pub placesAfter : (ℕ → ℕ) → Reference → Command → ℕ → List Place
-placesAfter n k c = cond (eqb (firstNo (questions (k .ledger) c)) 0) (moved n k c) (k .places)
+unfoldable pub placesAfter : Bool → (ℕ → ℕ) → Reference → Command → ℕ → List Place
+placesAfter hv n k c = cond (eqb (firstNo (questions hv (k .ledger) c)) 0) (moved n k c) (k .places)
 
 -- an insertion from 11 on
 unfoldable pub placesInserted : (ℕ → ℕ) → Reference → ℕ → ℕ → ℕ → ℕ → ℕ → List Place
@@ -127,8 +127,8 @@ placesServed n k strand side (present word) = placesInserted n k strand side 0 w
 
 -- ---- both
 -- after one command: the ledger is told the name d of the displaced entry, the places nothing
-abbrev pub referenceTold : (ℕ → ℕ) → Reference → Command → Name → Reference
-referenceTold n k c d = record { ledger = enters n (k .ledger) c d .ledger; places = placesAfter n k c }
+abbrev pub referenceTold : Bool → (ℕ → ℕ) → Reference → Command → Name → Reference
+referenceTold hv n k c d = record { ledger = enters hv n (k .ledger) c d .ledger; places = placesAfter hv n k c }
 
 -- after a miss, in the same way
 abbrev pub missTold : (ℕ → ℕ) → Reference → ℕ → ℕ → Miss → Name → Reference

@@ -1,4 +1,4 @@
--- Document 01, "Questions before a command acts": 5 to 13, as an ordered list for each command; and 15 of document 02, U5.
+-- Document 01, "Questions before a command acts": 5 to 13, as an ordered list for each command; with 15 and 16 of document 02, U5 and U6.
 -- Assumes nothing.
 use Prim.Native.Nat.{ℕ, _%_, _/_}
 use mathlib.Core.Bool.{Bool, true, false, not, cond, _&&_, _||_}
@@ -8,6 +8,7 @@ use lib.ListN.{getD}
 use Rattle.machine.specs.Pages.{inRange, untranslated}
 use Rattle.machine.specs.Words.{wordInsertable}
 use Rattle.machine.specs.Registers.{partition, mode, tagAccess, tagAddress, tagContext, known, writable, allowed}
+use Rattle.machine.specs.Permission.{permitted}
 use Rattle.machine.specs.Insertion.{entryOf, candidate, hasSlot}
 use Rattle.machine.specs.Record.{Records, recordOf, kept}
 use Rattle.machine.specs.State.{State, sideOf}
@@ -35,6 +36,7 @@ refusalNumber refusal.Word = 12
 refusalNumber refusal.NoSlot = 13
 refusalNumber refusal.Table = 14
 refusalNumber refusal.NoLookup = 15
+refusalNumber refusal.Permission = 16
 
 -- ---- what the questions speak of
 -- the side of an access: a fetch is kind 0
@@ -90,42 +92,57 @@ askedInsertion u strand side flags word =
     ∷ question refusal.NoSlot (hasSlot candidate (insertion u strand side flags word) (sideOf u side))
     ∷ []
 
-unfoldable pub asked : State → Command → List Question
-asked u (command.Write strand number value) =
+-- 16 stands behind 10 and before 11 (document 02, U6); an access and a read are open to every mode, and are not asked it
+unfoldable pub asked : Bool → State → Command → List Question
+asked hv u (command.Write strand number value) =
     question refusal.Strand (ltb strand 4)
     ∷ question refusal.Register (writable number)
     ∷ question refusal.Value (allowed number value)
+    ∷ question refusal.Permission (permitted hv (u .registers) (command.Write strand number value))
     ∷ []
-asked u (command.Insert strand side flags word) =
+asked hv u (command.Insert strand side flags word) =
     question refusal.Strand (ltb strand 4)
     ∷ question refusal.Side (ltb side 2)
     ∷ question refusal.Operand (ltb flags 4)
+    ∷ question refusal.Permission (permitted hv (u .registers) (command.Insert strand side flags word))
     ∷ askedInsertion u strand side flags word
-asked u (command.DemapPage strand side selector flags address) =
+asked hv u (command.DemapPage strand side selector flags address) =
     question refusal.Strand (ltb strand 4)
     ∷ question refusal.Side (ltb side 2)
     ∷ question refusal.Selector (selectorFits side selector)
     ∷ question refusal.Operand (ltb flags 2)
+    ∷ question refusal.Permission (permitted hv (u .registers) (command.DemapPage strand side selector flags address))
     ∷ question refusal.Address (inRange (address .0))
     ∷ []
-asked u (command.DemapContext strand side selector) =
+asked hv u (command.DemapContext strand side selector) =
     question refusal.Strand (ltb strand 4)
     ∷ question refusal.Side (ltb side 2)
     ∷ question refusal.Selector (selectorFits side selector)
+    ∷ question refusal.Permission (permitted hv (u .registers) (command.DemapContext strand side selector))
     ∷ []
-asked u (command.DemapAll strand side) = question refusal.Strand (ltb strand 4) ∷ question refusal.Side (ltb side 2) ∷ []
-asked u (command.Invalidate side) = question refusal.Side (ltb side 2) ∷ []
-asked u (command.Access strand kind selector size address) =
+asked hv u (command.DemapAll strand side) =
+    question refusal.Strand (ltb strand 4)
+    ∷ question refusal.Side (ltb side 2)
+    ∷ question refusal.Permission (permitted hv (u .registers) (command.DemapAll strand side))
+    ∷ []
+asked hv u (command.Invalidate side) =
+    question refusal.Side (ltb side 2) ∷ question refusal.Permission (permitted hv (u .registers) (command.Invalidate side)) ∷ []
+asked hv u (command.Access strand kind selector size address) =
     question refusal.Strand (ltb strand 4)
     ∷ question refusal.Side (ltb kind 5)
     ∷ question refusal.Selector (selectorFits (kindSide kind) selector && not (nucleusFetch (u .registers) strand kind selector))
     ∷ question refusal.Operand (sizeFits kind size)
     ∷ []
-asked u (command.Read strand number) = question refusal.Strand (ltb strand 4) ∷ question refusal.Register (known number) ∷ []
-asked u (command.Pointers strand side) = question refusal.Strand (ltb strand 4) ∷ question refusal.Side (ltb side 2) ∷ []
-asked u (command.Rate strand side) =
+asked hv u (command.Read strand number) = question refusal.Strand (ltb strand 4) ∷ question refusal.Register (known number) ∷ []
+asked hv u (command.Pointers strand side) =
     question refusal.Strand (ltb strand 4)
     ∷ question refusal.Side (ltb side 2)
+    ∷ question refusal.Permission (permitted hv (u .registers) (command.Pointers strand side))
+    ∷ []
+asked hv u (command.Rate strand side) =
+    question refusal.Strand (ltb strand 4)
+    ∷ question refusal.Side (ltb side 2)
+    ∷ question refusal.Permission (permitted hv (u .registers) (command.Rate strand side))
     ∷ question refusal.NoLookup (hasLookups (u .records) (recordOf strand side))
     ∷ []
 
@@ -134,5 +151,5 @@ unfoldable pub ask : List Question → Verdict
 ask [] = Passed
 ask (q ∷ qs) = cond (q .fine) (ask qs) (Refused (q .refusal))
 
-unfoldable pub verdict : State → Command → Verdict
-verdict u c = ask (asked u c)
+unfoldable pub verdict : Bool → State → Command → Verdict
+verdict hv u c = ask (asked hv u c)

@@ -3,6 +3,7 @@
 -- Assumes nothing.
 use Prim.Native.Nat.{ℕ, _+_, _*_, _-_, _≤_}
 use mathlib.Core.Path.{_≡_}
+use mathlib.Core.Bool.{Bool}
 use mathlib.Core.Option.{Option, none, some}
 use mathlib.Core.List.{List, [], _∷_, _++_}
 use lib.ListN.{length, drop}
@@ -19,7 +20,7 @@ use Rattle.machine.specs.declared.Command.{Command}
 use Rattle.machine.specs.declared.Report.{Report}
 use Rattle.machine.specs.declared.Part.{Part}
 
--- ---- commands. n is the slot count of each side
+-- ---- commands. n is the slot count of each side, hv the stream's mark
 -- the name of an entry; where none is displaced, no name is read
 abbrev pub nameOf : Option Entry → Name
 nameOf none = record { partition = 0; real = 0; place = 0; word = 0 }
@@ -34,33 +35,33 @@ displacedBy k other = none
 abbrev pub displacedName : Reference → Command → Name
 displacedName k c = nameOf (displacedBy k (view c))
 
-abbrev pub referenceNext : (ℕ → ℕ) → Reference → Command → Reference
-referenceNext n k c = referenceTold n k c (displacedName k c)
+abbrev pub referenceNext : Bool → (ℕ → ℕ) → Reference → Command → Reference
+referenceNext hv n k c = referenceTold hv n k c (displacedName k c)
 
-unfoldable pub referenceAfter : (ℕ → ℕ) → Reference → List Command → Reference
-referenceAfter n k [] = k
-referenceAfter n k (c ∷ cs) = referenceAfter n (referenceNext n k c) cs
+unfoldable pub referenceAfter : Bool → (ℕ → ℕ) → Reference → List Command → Reference
+referenceAfter hv n k [] = k
+referenceAfter hv n k (c ∷ cs) = referenceAfter hv n (referenceNext hv n k c) cs
 
-unfoldable pub referenceBytes : (ℕ → ℕ) → Reference → List Command → Bytes
-referenceBytes n k [] = []
-referenceBytes n k (c ∷ cs) = enters n (k .ledger) c (displacedName k c) .bytes ++ referenceBytes n (referenceNext n k c) cs
+unfoldable pub referenceBytes : Bool → (ℕ → ℕ) → Reference → List Command → Bytes
+referenceBytes hv n k [] = []
+referenceBytes hv n k (c ∷ cs) = enters hv n (k .ledger) c (displacedName k c) .bytes ++ referenceBytes hv n (referenceNext hv n k c) cs
 
 -- ---- a run
 -- of bytes that are read as t: what it leaves in the words and bytes lent, and what it returns
-pub record Leaves (n : ℕ → ℕ) (k : Reference) (input output : Bytes) (t : Reading) (left : List ℕ) (written : Bytes) (r : Report) : Type 0 where
-  pub words : left ≡ referenceWords (referenceAfter n k (t .commands))
+pub record Leaves (hv : Bool) (n : ℕ → ℕ) (k : Reference) (input output : Bytes) (t : Reading) (left : List ℕ) (written : Bytes) (r : Report) : Type 0 where
+  pub words : left ≡ referenceWords (referenceAfter hv n k (t .commands))
   -- behind the answers the output is as it was lent
-  pub bytes : written ≡ referenceBytes n k (t .commands) ++ drop (length (t .commands) * 24) output
+  pub bytes : written ≡ referenceBytes hv n k (t .commands) ++ drop (length (t .commands) * 24) output
   pub answered : r .answered ≡ length (t .commands)
   pub taken : r .taken ≡ length input - length (t .rest)
   pub stop : r .stop ≡ t .stop
 
 -- a call on any words, with input and output lent
-pub record RunTold (n : ℕ → ℕ) (words : List ℕ) (input output : Bytes) (left : List ℕ) (written : Bytes) (r : Report) : Type 0 where
+pub record RunTold (hv : Bool) (n : ℕ → ℕ) (words : List ℕ) (input output : Bytes) (left : List ℕ) (written : Bytes) (r : Report) : Type 0 where
   -- number 1: words that are not sound stay, and so does the output
   pub unsound : (GoodWords n words → ⊥) → (left ≡ words) × (written ≡ output) × (r .answered ≡ 0) × (r .taken ≡ 0) × (r .stop ≡ 1)
   pub sound : (k : Reference) → ReferenceGood n k → words ≡ referenceWords k
-      → (t : Reading) → ReadAs input (length output) t → Leaves n k input output t left written r
+      → (t : Reading) → ReadAs input (length output) t → Leaves hv n k input output t left written r
 
 -- ---- a miss
 -- who makes way for the entry that serves it, if one does
@@ -107,10 +108,10 @@ returned o = record { answered = o .answered; taken = o .taken; stop = o .stop }
 
 -- one event, and then what is told of the reference that it leaves
 abbrev pub EventTold : Counts → (ℕ → ℕ) → Reference → Event → (Reference → Type 0) → Type 0
-EventTold c n k (run input output) Then =
-    let o : Outcome = runOf c (referenceWords k) input output in
+EventTold c n k (run hv input output) Then =
+    let o : Outcome = runOf hv c (referenceWords k) input output in
     (t : Reading) → ReadAs input (length output) t
-    → Leaves n k input output t (o .words) (o .output) (returned o) × Then (referenceAfter n k (t .commands))
+    → Leaves hv n k input output t (o .words) (o .output) (returned o) × Then (referenceAfter hv n k (t .commands))
 EventTold c n k (serve strand side ofZero ofOther) Then =
     let o : Served = servedOf c (referenceWords k) strand side ofZero ofOther in
     ServeLeaves n k strand side ofZero ofOther (o .words) (answerBytes (o .answer)) × Then (missNext n k strand side ofZero ofOther)
@@ -122,9 +123,9 @@ EventsTold c n k (e ∷ es) = EventTold c n k e (λ l. EventsTold c n l es)
 
 pub record Told (c : Counts) (n : ℕ → ℕ) : Type 0 where
   pub reset : (words : List ℕ) → ResetTold n words (resetOf c words) (resetNumber c words)
-  pub run : (words : List ℕ) (input output : Bytes) →
-      let o : Outcome = runOf c words input output in
-      RunTold n words input output (o .words) (o .output) (returned o)
+  pub run : (hv : Bool) (words : List ℕ) (input output : Bytes) →
+      let o : Outcome = runOf hv c words input output in
+      RunTold hv n words input output (o .words) (o .output) (returned o)
   pub serve : (words : List ℕ) (strand side : ℕ) (ofZero ofOther : Bytes) →
       let o : Served = servedOf c words strand side ofZero ofOther in
       ServeTold n words strand side ofZero ofOther (o .words) (answerBytes (o .answer))
@@ -132,7 +133,7 @@ pub record Told (c : Counts) (n : ℕ → ℕ) : Type 0 where
       → PartTold n words strand side ofZero ofOther (partOf c words strand side ofZero ofOther)
   -- reset is sound, and so is what a command leaves, and a miss
   pub start : ReferenceGood n (referenceStart n)
-  pub kept : (k : Reference) (c : Command) → ReferenceGood n k → ReferenceGood n (referenceNext n k c)
+  pub kept : (hv : Bool) (k : Reference) (c : Command) → ReferenceGood n k → ReferenceGood n (referenceNext hv n k c)
   pub missed : (k : Reference) (strand side : ℕ) (ofZero ofOther : Bytes) → ReferenceGood n k
       → ReferenceGood n (missNext n k strand side ofZero ofOther)
   -- so every list of runs and served misses, from reset and from every sound state

@@ -1,6 +1,7 @@
--- One command of the unit: its questions, what it does to the state, and what it answers.
+-- One command of the unit, from a stream with or without the hypervisor's mark: its questions, what it does to the state, and what it answers.
 -- Assumes nothing.
 use Prim.Native.Nat.{ℕ, _+_}
+use mathlib.Core.Bool.{Bool}
 use Rattle.laws.specs.Tests.{count}
 use Rattle.machine.specs.Slots.{partitionOf, isReal, contextOf}
 use Rattle.machine.specs.Registers.{register, withRegister, partition, selected}
@@ -61,8 +62,8 @@ abbrev pub stepBy : Verdict → State → Command → Stepped
 stepBy Passed u c = act u c
 stepBy (Refused r) u c = stepped u (answer.Refused r)
 
-unfoldable pub step : State → Command → Stepped
-step u c = stepBy (verdict u c) u c
+unfoldable pub step : Bool → State → Command → Stepped
+step hv u c = stepBy (verdict hv u c) u c
 
 -- an insertion once 11 is next to be asked
 unfoldable pub insertStep : State → ℕ → ℕ → ℕ → ℕ → Stepped

@@ -1,7 +1,7 @@
 -- Document 01, "The stream": commands read from bytes, answers as bytes, and a run.
 -- Assumes nothing.
 use Prim.Native.Nat.{ℕ, zero, suc, _+_, _*_, _-_, _/_, _%_, _^_}
-use mathlib.Core.Bool.{cond}
+use mathlib.Core.Bool.{Bool, cond}
 use mathlib.Core.List.{List, [], _∷_, _++_}
 use lib.Dec.{eqb, ltb}
 use lib.ListN.{length, getD}
@@ -138,13 +138,13 @@ abbrev pub takenOf : Bytes → ℕ → Taken
 takenOf input room = takes (length input) input 0 room
 
 -- the state after commands, and the bytes of their answers
-unfoldable pub after : State → List Command → State
-after u [] = u
-after u (c ∷ cs) = after (step u c .state) cs
+unfoldable pub after : Bool → State → List Command → State
+after hv u [] = u
+after hv u (c ∷ cs) = after hv (step hv u c .state) cs
 
-unfoldable pub answersBytes : State → List Command → Bytes
-answersBytes u [] = []
-answersBytes u (c ∷ cs) = answerBytes (step u c .answer) ++ answersBytes (step u c .state) cs
+unfoldable pub answersBytes : Bool → State → List Command → Bytes
+answersBytes hv u [] = []
+answersBytes hv u (c ∷ cs) = answerBytes (step hv u c .answer) ++ answersBytes hv (step hv u c .state) cs
 
 -- all that a run leaves and returns
 pub record Outcome : Type 0 where
@@ -159,18 +159,18 @@ abbrev pub outcome : List ℕ → Bytes → Report → Outcome
 outcome words output r = record { words = words; output = output; answered = r .answered; taken = r .taken; stop = r .stop }
 
 -- after `answered` commands of `at` bytes, the commands yet to be taken
-unfoldable pub finish : State → Bytes → ℕ → ℕ → Taken → Outcome
-finish u output answered at rest = record {
-  words = encode (after u (rest .commands));
-  output = sets output (answered * 24) (answersBytes u (rest .commands));
+unfoldable pub finish : Bool → State → Bytes → ℕ → ℕ → Taken → Outcome
+finish hv u output answered at rest = record {
+  words = encode (after hv u (rest .commands));
+  output = sets output (answered * 24) (answersBytes hv u (rest .commands));
   answered = answered + length (rest .commands);
   taken = at + rest .width;
   stop = rest .stop;
 }
 
--- number 1 once and first; then command after command
-unfoldable pub runOf : Counts → List ℕ → Bytes → Bytes → Outcome
-runOf n words input output =
+-- number 1 once and first; then command after command, each with the stream's mark
+unfoldable pub runOf : Bool → Counts → List ℕ → Bytes → Bytes → Outcome
+runOf hv n words input output =
     cond (wordsSound n words)
-    (finish (stateOf n words) output 0 0 (takenOf input (length output)))
+    (finish hv (stateOf n words) output 0 0 (takenOf input (length output)))
     (record { words = words; output = output; answered = 0; taken = 0; stop = 1 })

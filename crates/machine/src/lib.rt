@@ -15,6 +15,7 @@ ghost use Rattle.machine.specs.Examples.{Starred, PrintedRun};
 ghost use Rattle.machine.specs.Format.{Readable, Decodes};
 ghost use Rattle.machine.specs.Searches.{Searches};
 ghost use Rattle.machine.specs.Extent.{Extent};
+ghost use Rattle.machine.specs.Guests.{GuestsConfined};
 use laws::Found;
 
 // Registers by number: document 01, "Registers". One that each side has stands at the number given plus the side.
@@ -42,6 +43,8 @@ pub const FAULT_STATUS: u8 = 24;
 
 // What a mode register holds.
 pub const USER: u64 = 0;
+
+pub const PRIVILEGED: u64 = 1;
 
 pub const HYPERPRIVILEGED: u64 = 2;
 
@@ -228,7 +231,7 @@ pub enum Command {
     },
 }
 
-// Why a command that was taken did not act: numbers 5 to 13, in their order; 14, of a miss alone; and 15.
+// Why a command that was taken did not act: numbers 5 to 13, in their order; 14, of a miss alone; 15 and 16.
 pub enum Refusal {
     Strand,
     Side,
@@ -241,6 +244,7 @@ pub enum Refusal {
     NoSlot,
     Table,
     NoLookup,
+    Permission,
 }
 
 // What the questions before a command say.
@@ -365,6 +369,7 @@ pub fn answer_width() -> usize
     ensures searches { λ r. ⌜ ((n : Counts) → Searches n) ⌝ }
     ensures lookups { λ r. ⌜ Lookups ⌝ }
     ensures extent { λ r. ⌜ ((n : Counts) → Extent n) ⌝ }
+    ensures guests { λ r. ⌜ ((n : Counts) → GuestsConfined (slotCount n)) ⌝ }
     ensures decodes { λ r. ⌜ Decodes ⌝ }
     ensures starred { λ r. ⌜ Starred ⌝ }
     ensures printed { λ r. ⌜ PrintedRun ⌝ }

@@ -1,7 +1,7 @@
 -- What the code that acts may rely on: the operands of a command that passed its questions, and an entry displaced from a sound side.
 -- Assumes nothing.
 use mathlib.Core.Path.{_≡_}
-use mathlib.Core.Bool.{true}
+use mathlib.Core.Bool.{Bool, true}
 use mathlib.Core.List.{List}
 use native.Mathlib.Omega.{arith}
 use borrow.Author.Tests.{eqb-true, ltb-true}
@@ -28,39 +28,39 @@ use Rattle.mmu.specs.Fits.{PlaceFits, OperandsFit}
 
 ruleset conj = (and-left, and-right, eqb-true, ltb-true)
 
-pub passed-fit : (u : State) (c : Command) → verdict u c ≡ Passed → OperandsFit c
+pub passed-fit : (hv : Bool) (u : State) (c : Command) → verdict hv u c ≡ Passed → OperandsFit c
 unfolding asked askedInsertion allOf
-passed-fit u (command.Write strand number value) v =
-    let q = passed-asked u (command.Write strand number value) v in
+passed-fit hv u (command.Write strand number value) v =
+    let q = passed-asked hv u (command.Write strand number value) v in
     let w : writable number ≡ true = search conj in
     (search conj, omega (arith, writable-below number w))
-passed-fit u (command.Insert strand side flags word) v =
-    let q = passed-asked u (command.Insert strand side flags word) v in
+passed-fit hv u (command.Insert strand side flags word) v =
+    let q = passed-asked hv u (command.Insert strand side flags word) v in
     (search conj, search conj)
-passed-fit u (command.DemapPage strand side selector flags address) v =
-    let q = passed-asked u (command.DemapPage strand side selector flags address) v in
+passed-fit hv u (command.DemapPage strand side selector flags address) v =
+    let q = passed-asked hv u (command.DemapPage strand side selector flags address) v in
     (search conj, search conj)
-passed-fit u (command.DemapContext strand side selector) v =
-    let q = passed-asked u (command.DemapContext strand side selector) v in
+passed-fit hv u (command.DemapContext strand side selector) v =
+    let q = passed-asked hv u (command.DemapContext strand side selector) v in
     (search conj, search conj)
-passed-fit u (command.DemapAll strand side) v =
-    let q = passed-asked u (command.DemapAll strand side) v in
+passed-fit hv u (command.DemapAll strand side) v =
+    let q = passed-asked hv u (command.DemapAll strand side) v in
     (search conj, search conj)
-passed-fit u (command.Invalidate side) v =
-    let q = passed-asked u (command.Invalidate side) v in
+passed-fit hv u (command.Invalidate side) v =
+    let q = passed-asked hv u (command.Invalidate side) v in
     search conj
-passed-fit u (command.Access strand kind selector size address) v =
-    let q = passed-asked u (command.Access strand kind selector size address) v in
+passed-fit hv u (command.Access strand kind selector size address) v =
+    let q = passed-asked hv u (command.Access strand kind selector size address) v in
     (search conj, search conj)
-passed-fit u (command.Read strand number) v =
-    let q = passed-asked u (command.Read strand number) v in
+passed-fit hv u (command.Read strand number) v =
+    let q = passed-asked hv u (command.Read strand number) v in
     let k : known number ≡ true = search conj in
     (search conj, omega (arith, known-below number k))
-passed-fit u (command.Pointers strand side) v =
-    let q = passed-asked u (command.Pointers strand side) v in
+passed-fit hv u (command.Pointers strand side) v =
+    let q = passed-asked hv u (command.Pointers strand side) v in
     (search conj, search conj)
-passed-fit u (command.Rate strand side) v =
-    let q = passed-asked u (command.Rate strand side) v in
+passed-fit hv u (command.Rate strand side) v =
+    let q = passed-asked hv u (command.Rate strand side) v in
     (search conj, search conj)
 
 -- a page starts at a multiple of 2^13, so its context fits beside it

@@ -2,6 +2,7 @@
 -- Assumes nothing.
 use Prim.Native.Nat.{ℕ, _+_, _^_, _<_}
 use mathlib.Core.Path.{_≡_}
+use mathlib.Core.Bool.{Bool}
 use mathlib.Core.List.{List}
 use Rattle.machine.specs.Slots.{contextOf}
 use Rattle.machine.specs.State.{stateIn}
@@ -32,9 +33,9 @@ OperandsFit (command.Read strand number) = (strand < 4) × (number < 32)
 OperandsFit (command.Pointers strand side) = (strand < 4) × (side < 2)
 OperandsFit (command.Rate strand side) = (strand < 4) × (side < 2)
 
--- the words of a sound state on which the command passed its questions
+-- the words of a sound state on which the command passed its questions, whatever stream it came from
 pub record Ready (words : List ℕ) (c : Command) : Type 0 where
   pub lent : Lent words
   pub sound : SoundIn words
-  pub passed : verdict (stateIn words) c ≡ Passed
+  pub passed : (hv : Bool) × (verdict hv (stateIn words) c ≡ Passed)
   pub fit : OperandsFit c

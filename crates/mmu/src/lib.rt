@@ -216,12 +216,17 @@ fn act_command(state: &mut [u64], hints: &mut [u8; 256], command: Command) -> An
     }
 }
 
-// One command: refused by the first question that it fails, or done.
-pub fn execute(state: &mut [u64], hints: &mut [u8; 256], command: Command) -> Answer
+// One command: refused by the first question that it fails, or done. `hypervisor` is the stream's mark.
+pub fn execute(
+    state: &mut [u64],
+    hints: &mut [u8; 256],
+    command: Command,
+    hypervisor: bool,
+) -> Answer
     requires { ⌜ Lent (now state) × SoundIn (now state) ⌝ }
-    ensures { λ r. ⌜ Did (now (state .exit)) r (step (stateIn (now (state .entry))) command) ⌝ }
+    ensures { λ r. ⌜ Did (now (state .exit)) r (step hypervisor (stateIn (now (state .entry))) command) ⌝ }
 {
-    if let Verdict::Refused(refusal) = questions::question(state, command) {
+    if let Verdict::Refused(refusal) = questions::question(state, command, hypervisor) {
         return Answer::Refused(refusal);
     }
     act_command(state, hints, command)

@@ -1,5 +1,6 @@
 -- A list of numbers filled place by place, and what a caller learns from a run's contract. Assumes nothing.
 use Prim.Native.Nat.{ℕ, zero, suc, _+_, _*_, _≤_, _<_}
+use mathlib.Core.Bool.{Bool}
 use mathlib.Core.List.{List}
 use mathlib.Core.Path.{_≡_, refl, sym, ap, _∙_}
 use native.Mathlib.Omega.{arith}
@@ -29,6 +30,6 @@ table-all f s n e p = ext-getD 0 s (listOf f 0 n) (e ∙ sym (list-of-length f 0
     p k l ∙ sym (list-of-at f n 0 k l ∙ ap f (omega arith)))
 
 -- the answers lie within the output
-pub answers-fit : (words later : List ℕ) (input output filled : Bytes) (r : Report)
-    → outcome later filled r ≡ runOf counts words input output → length filled ≡ length output → r .answered * 24 ≤ length filled
-answers-fit words later input output filled r e h = omega (arith, ap (λ (o : Outcome). o .answered) e, run-room counts words input output)
+pub answers-fit : (hv : Bool) (words later : List ℕ) (input output filled : Bytes) (r : Report)
+    → outcome later filled r ≡ runOf hv counts words input output → length filled ≡ length output → r .answered * 24 ≤ length filled
+answers-fit hv words later input output filled r e h = omega (arith, ap (λ (o : Outcome). o .answered) e, run-room hv counts words input output)

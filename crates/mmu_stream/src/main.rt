@@ -1,4 +1,4 @@
-// The stream program: at most 4,096 bytes of standard input, run from reset. A line for each answer, its 24 bytes in
+// The stream program: at most 4,096 bytes of standard input, run from reset as a stream without the hypervisor's mark. A line for each answer, its 24 bytes in
 // hexadecimal; then a line that starts with `end` and has the three numbers that the run returns, the stop last.
 ghost use mathlib.Core.Path.{_≡_};
 ghost use Prim.Native.Nat.{_+_, _*_, _<_, _≤_};
@@ -68,7 +68,7 @@ fn main() {
     let mut words = [0u64; machine::STATE_WORDS];
     let n = io::read_full(0, &mut input);
     state::reset(&mut words);
-    let ran = stream::run(&mut words, &input[..n], &mut output);
+    let ran = stream::run(&mut words, &input[..n], &mut output, false);
     print_answers(&output, ran.answered);
     print_end(ran.answered, ran.taken, ran.stop);
 }

@@ -53,5 +53,6 @@ pub fn refusal_number(refusal: Refusal) -> u64
         Refusal::NoSlot => 13,
         Refusal::Table => 14,
         Refusal::NoLookup => 15,
+        Refusal::Permission => 16,
     }
 }

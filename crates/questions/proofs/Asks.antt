@@ -1,33 +1,38 @@
 -- Questions one after another: those that are left decide. Assumes nothing.
-use Prim.Native.Nat.{ℕ}
+use Prim.Native.Nat.{ℕ, _<_}
 use mathlib.Core.Path.{_≡_, refl, sym, _∙_}
 use mathlib.Core.Bool.{Bool, true, false, not}
 use mathlib.Core.List.{List, [], _∷_, _++_}
-use borrow.Author.Tests.{not-true, not-false}
+use borrow.Author.Tests.{not-true, not-false, ltb-true}
 use lib.ListN.{drop}
-use Rattle.laws.proofs.Bools.{by-test}
+use Rattle.laws.specs.Tests.{allOf}
+use Rattle.laws.proofs.Bools.{by-test, and-left, and-right}
 use Rattle.machine.specs.State.{State}
 use Rattle.machine.specs.Questions.{Question, question, asked, ask, verdict}
 use Rattle.machine.specs.declared.Command.{Command}
 use Rattle.machine.specs.declared.Refusal.{Refusal}
 use Rattle.machine.specs.declared.Verdict.{Verdict}
 use Rattle.machine.specs.declared.Verdict.the-variants.{Passed, Refused}
+use Rattle.machine.proofs.State.{ask-fine}
+use Rattle.questions.specs.Verdicts.{askedSide}
+
+ruleset conj = (and-left, and-right, ltb-true)
 
 -- the questions that are left come to the verdict
 pub record Left (v : Verdict) (qs : List Question) : Type 0 where
   pub decides : ask qs ≡ v
 
 -- those of a command after the first k
-abbrev pub After : State → Command → ℕ → Type 0
-After u c k = Left (verdict u c) (drop k (asked u c))
+abbrev pub After : Bool → State → Command → ℕ → Type 0
+After hv u c k = Left (verdict hv u c) (drop k (asked hv u c))
 
 -- before the first, all
 pub every : (qs : List Question) → Left (ask qs) qs
 every qs = record { decides = refl }
 
-pub all : (u : State) (c : Command) → Left (verdict u c) (asked u c)
+pub all : (hv : Bool) (u : State) (c : Command) → Left (verdict hv u c) (asked hv u c)
 unfolding verdict
-all u c = every (asked u c)
+all hv u c = every (asked hv u c)
 
 module _ {v : Verdict} {r : Refusal} {b : Bool} {qs : List Question} where
   -- a "yes" leaves those behind it
@@ -55,16 +60,18 @@ unfolding ask
 both [] rest = refl
 both (q ∷ qs) rest = by-test (q .fine) (λ t. rw t (both qs rest)) (λ t. rw t)
 
--- where the first questions are those of another command, which was asked: if it passed ..
-pub passed : {v w : Verdict} (u : State) (c : Command) (rest : List Question) → w ≡ verdict u c → w ≡ Passed → Left v (asked u c ++ rest) → Left v rest
-unfolding verdict
-passed u c rest p e l = record { decides = sym (rw (sym p ∙ e) at (both (asked u c) rest)) ∙ l .decides }
+-- where the first questions are some that were asked: if they passed ..
+pub passed : {v w : Verdict} (qs rest : List Question) → w ≡ ask qs → w ≡ Passed → Left v (qs ++ rest) → Left v rest
+passed qs rest p e l = record { decides = sym (rw (sym p ∙ e) at (both qs rest)) ∙ l .decides }
 
--- .. and if it was refused
-pub refused : {v w : Verdict} {r : Refusal} (u : State) (c : Command) (rest : List Question)
-    → w ≡ verdict u c → w ≡ Refused r → Left v (asked u c ++ rest) → Refused r ≡ v
-unfolding verdict
-refused u c rest p e l = sym (rw (sym p ∙ e) at (both (asked u c) rest)) ∙ l .decides
+-- .. and if one was answered "no"
+pub refused : {v w : Verdict} {r : Refusal} (qs rest : List Question) → w ≡ ask qs → w ≡ Refused r → Left v (qs ++ rest) → Refused r ≡ v
+refused qs rest p e l = sym (rw (sym p ∙ e) at (both qs rest)) ∙ l .decides
+
+-- strand and side are there once 5 and 6 passed
+pub there : {w : Verdict} (strand side : ℕ) (rest : List Question) → w ≡ ask (askedSide strand side ++ rest) → w ≡ Passed → (strand < 4) × (side < 2)
+unfolding allOf
+there strand side rest p e = let q = ask-fine (askedSide strand side ++ rest) (sym p ∙ e) in (search conj, search conj)
 
 -- what a call says of a question, as the code tests it
 module _ {t b : Bool} (e : t ≡ b) where

@@ -1,9 +1,13 @@
-// Questions 5 to 13 and 15, asked on the state as it is before a command acts: document 01, "Questions before a command acts".
+// Questions 5 to 13, 15 and 16, asked on the state as it is before a command acts: document 01, "Questions before a command acts".
 ghost use mathlib.Core.Path.{_≡_};
 ghost use Prim.Native.Nat.{_<_};
 ghost use Rattle.machine.specs.State.{stateIn};
 ghost use Rattle.state.specs.Calls.{Lent};
-ghost use Rattle.machine.specs.Questions.{selectorFits, nucleusFetch, sizeFits, verdict};
+ghost use lib.Dec.{leb};
+ghost use Rattle.machine.specs.Registers.{mode};
+ghost use Rattle.machine.specs.Permission.{leastMode};
+ghost use Rattle.machine.specs.Questions.{selectorFits, nucleusFetch, sizeFits, ask, verdict};
+ghost use Rattle.questions.specs.Verdicts.{Either, askedSide, askedContext, askedOpen};
 ghost use Rattle.machine.specs.declared.Command.the-variants as command;
 use machine::Command;
 use machine::Refusal;
@@ -33,8 +37,22 @@ fn is_nucleus_fetch(state: &[u64], strand: u8, kind: u8, selector: u8) -> bool
         && (selector == 2 && state::read_register(state, strand, machine::MODE) == machine::USER)
 }
 
+// Number 16: the strand's mode may do what is open to guests, or what is not.
+fn mode_allows(state: &[u64], strand: u8, guest: bool) -> bool
+    requires { ⌜ Lent (now state) × (strand < 4) ⌝ }
+    ensures { λ r. ⌜ r ≡ leb (leastMode guest) (mode (stateIn (now (state .entry)) .registers) strand) ⌝ }
+{
+    let mode = state::read_register(state, strand, machine::MODE);
+    if guest {
+        machine::PRIVILEGED <= mode
+    } else {
+        machine::HYPERPRIVILEGED <= mode
+    }
+}
+
 fn ask_write(state: &[u64], strand: u8, number: u8, value: u64) -> Verdict
-    ensures { λ r. ⌜ r ≡ verdict (stateIn (now (state .entry))) (command.Write strand number value) ⌝ }
+    requires { ⌜ Lent (now state) ⌝ }
+    ensures { λ r. ⌜ Either r (stateIn (now (state .entry))) (command.Write strand number value) ⌝ }
 {
     if 4 <= strand {
         return Verdict::Refused(Refusal::Strand);
@@ -45,12 +63,15 @@ fn ask_write(state: &[u64], strand: u8, number: u8, value: u64) -> Verdict
     if !registers::is_allowed(number, value) {
         return Verdict::Refused(Refusal::Value);
     }
+    if !mode_allows(state, strand, registers::is_guest_writable(number)) {
+        return Verdict::Refused(Refusal::Permission);
+    }
     Verdict::Passed
 }
 
 fn ask_insert(state: &[u64], strand: u8, side: u8, flags: u8, word: u64) -> Verdict
     requires { ⌜ Lent (now state) ⌝ }
-    ensures { λ r. ⌜ r ≡ verdict (stateIn (now (state .entry))) (command.Insert strand side flags word) ⌝ }
+    ensures { λ r. ⌜ Either r (stateIn (now (state .entry))) (command.Insert strand side flags word) ⌝ }
 {
     if 4 <= strand {
         return Verdict::Refused(Refusal::Strand);
@@ -60,6 +81,9 @@ fn ask_insert(state: &[u64], strand: u8, side: u8, flags: u8, word: u64) -> Verd
     }
     if 4 <= flags {
         return Verdict::Refused(Refusal::Operand);
+    }
+    if !mode_allows(state, strand, flags == 0) {
+        return Verdict::Refused(Refusal::Permission);
     }
     if !pages::in_range(operands::tag_address(operands::tag_of(state, strand, side)).0) {
         return Verdict::Refused(Refusal::Address);
@@ -77,33 +101,24 @@ fn ask_insert(state: &[u64], strand: u8, side: u8, flags: u8, word: u64) -> Verd
     Verdict::Passed
 }
 
-fn ask_demap_page(
-    state: &[u64],
-    strand: u8,
-    side: u8,
-    selector: u8,
-    flags: u8,
-    address: VirtualAddress,
-) -> Verdict
-    ensures { λ r. ⌜ r ≡ verdict (stateIn (now (state .entry)))
-        (command.DemapPage strand side selector flags address) ⌝ }
+// 5 and 6, with which commands on a side begin.
+fn ask_side(strand: u8, side: u8) -> Verdict
+    ensures { λ r. ⌜ r ≡ ask (askedSide strand side) ⌝ }
 {
-    if let Verdict::Refused(refusal) = ask_demap_context(state, strand, side, selector) {
-        return Verdict::Refused(refusal);
+    if 4 <= strand {
+        return Verdict::Refused(Refusal::Strand);
     }
-    if 2 <= flags {
-        return Verdict::Refused(Refusal::Operand);
-    }
-    if !pages::in_range(address.0) {
-        return Verdict::Refused(Refusal::Address);
+    if 2 <= side {
+        return Verdict::Refused(Refusal::Side);
     }
     Verdict::Passed
 }
 
-fn ask_demap_context(state: &[u64], strand: u8, side: u8, selector: u8) -> Verdict
-    ensures { λ r. ⌜ r ≡ verdict (stateIn (now (state .entry))) (command.DemapContext strand side selector) ⌝ }
+// And 7, with which those on a context begin.
+fn ask_context(strand: u8, side: u8, selector: u8) -> Verdict
+    ensures { λ r. ⌜ r ≡ ask (askedContext strand side selector) ⌝ }
 {
-    if let Verdict::Refused(refusal) = ask_demap_all(state, strand, side) {
+    if let Verdict::Refused(refusal) = ask_side(strand, side) {
         return Verdict::Refused(refusal);
     }
     if !selector_fits(side, selector) {
@@ -112,14 +127,56 @@ fn ask_demap_context(state: &[u64], strand: u8, side: u8, selector: u8) -> Verdi
     Verdict::Passed
 }
 
-fn ask_demap_all(state: &[u64], strand: u8, side: u8) -> Verdict
-    ensures { λ r. ⌜ r ≡ verdict (stateIn (now (state .entry))) (command.DemapAll strand side) ⌝ }
+fn ask_demap_page(
+    state: &[u64],
+    strand: u8,
+    side: u8,
+    selector: u8,
+    flags: u8,
+    address: VirtualAddress,
+) -> Verdict
+    requires { ⌜ Lent (now state) ⌝ }
+    ensures { λ r. ⌜ Either r (stateIn (now (state .entry)))
+        (command.DemapPage strand side selector flags address) ⌝ }
 {
-    if 4 <= strand {
-        return Verdict::Refused(Refusal::Strand);
+    if let Verdict::Refused(refusal) = ask_context(strand, side, selector) {
+        return Verdict::Refused(refusal);
     }
-    if 2 <= side {
-        return Verdict::Refused(Refusal::Side);
+    if 2 <= flags {
+        return Verdict::Refused(Refusal::Operand);
+    }
+    if !mode_allows(state, strand, true) {
+        return Verdict::Refused(Refusal::Permission);
+    }
+    if !pages::in_range(address.0) {
+        return Verdict::Refused(Refusal::Address);
+    }
+    Verdict::Passed
+}
+
+fn ask_demap_context(state: &[u64], strand: u8, side: u8, selector: u8) -> Verdict
+    requires { ⌜ Lent (now state) ⌝ }
+    ensures { λ r. ⌜ Either r (stateIn (now (state .entry))) (command.DemapContext strand side selector) ⌝ }
+{
+    if let Verdict::Refused(refusal) = ask_context(strand, side, selector) {
+        return Verdict::Refused(refusal);
+    }
+    if !mode_allows(state, strand, true) {
+        return Verdict::Refused(Refusal::Permission);
+    }
+    Verdict::Passed
+}
+
+// 5, 6 and 16, of what is open to guests, as pointers are, or of what is not.
+fn ask_open(state: &[u64], strand: u8, side: u8, guest: bool) -> Verdict
+    requires { ⌜ Lent (now state) ⌝ }
+    ensures { λ r. ⌜ r ≡ ask (askedOpen (stateIn (now (state .entry)) .registers) strand side guest) ⌝ }
+{
+    if let Verdict::Refused(refusal) = ask_side(strand, side) {
+        return Verdict::Refused(refusal);
+    }
+    if !mode_allows(state, strand, guest) {
+        return Verdict::Refused(Refusal::Permission);
     }
     Verdict::Passed
 }
@@ -133,7 +190,7 @@ fn ask_access(
     address: VirtualAddress,
 ) -> Verdict
     requires { ⌜ Lent (now state) ⌝ }
-    ensures { λ r. ⌜ r ≡ verdict (stateIn (now (state .entry))) (command.Access strand kind selector size address) ⌝ }
+    ensures { λ r. ⌜ Either r (stateIn (now (state .entry))) (command.Access strand kind selector size address) ⌝ }
 {
     if 4 <= strand {
         return Verdict::Refused(Refusal::Strand);
@@ -154,7 +211,7 @@ fn ask_access(
 }
 
 fn ask_read(state: &[u64], strand: u8, number: u8) -> Verdict
-    ensures { λ r. ⌜ r ≡ verdict (stateIn (now (state .entry))) (command.Read strand number) ⌝ }
+    ensures { λ r. ⌜ Either r (stateIn (now (state .entry))) (command.Read strand number) ⌝ }
 {
     if 4 <= strand {
         return Verdict::Refused(Refusal::Strand);
@@ -167,9 +224,9 @@ fn ask_read(state: &[u64], strand: u8, number: u8) -> Verdict
 
 fn ask_rate(state: &[u64], strand: u8, side: u8) -> Verdict
     requires { ⌜ Lent (now state) ⌝ }
-    ensures { λ r. ⌜ r ≡ verdict (stateIn (now (state .entry))) (command.Rate strand side) ⌝ }
+    ensures { λ r. ⌜ Either r (stateIn (now (state .entry))) (command.Rate strand side) ⌝ }
 {
-    if let Verdict::Refused(refusal) = ask_demap_all(state, strand, side) {
+    if let Verdict::Refused(refusal) = ask_open(state, strand, side, true) {
         return Verdict::Refused(refusal);
     }
     if state::lookups_kept(state, strand, side) == 0 {
@@ -178,19 +235,23 @@ fn ask_rate(state: &[u64], strand: u8, side: u8) -> Verdict
     Verdict::Passed
 }
 
-fn ask_invalidate(state: &[u64], side: u8) -> Verdict
-    ensures { λ r. ⌜ r ≡ verdict (stateIn (now (state .entry))) (command.Invalidate side) ⌝ }
+// It names no strand: the stream's mark says whether it is permitted.
+fn ask_invalidate(state: &[u64], side: u8, hypervisor: bool) -> Verdict
+    ensures { λ r. ⌜ r ≡ verdict hypervisor (stateIn (now (state .entry))) (command.Invalidate side) ⌝ }
 {
     if 2 <= side {
         return Verdict::Refused(Refusal::Side);
     }
+    if !hypervisor {
+        return Verdict::Refused(Refusal::Permission);
+    }
     Verdict::Passed
 }
 
-// The first question of a command that is answered "no", or that it passed.
-pub fn question(state: &[u64], command: Command) -> Verdict
+// The first question of a command that is answered "no", or that it passed. `hypervisor` is the stream's mark.
+pub fn question(state: &[u64], command: Command, hypervisor: bool) -> Verdict
     requires { ⌜ Lent (now state) ⌝ }
-    ensures { λ r. ⌜ r ≡ verdict (stateIn (now (state .entry))) command ⌝ }
+    ensures { λ r. ⌜ r ≡ verdict hypervisor (stateIn (now (state .entry))) command ⌝ }
 {
     match command {
         Command::Write {
@@ -216,8 +277,8 @@ pub fn question(state: &[u64], command: Command) -> Verdict
             side,
             selector,
         } => ask_demap_context(state, strand, side, selector),
-        Command::DemapAll { strand, side } => ask_demap_all(state, strand, side),
-        Command::Invalidate { side } => ask_invalidate(state, side),
+        Command::DemapAll { strand, side } => ask_open(state, strand, side, false),
+        Command::Invalidate { side } => ask_invalidate(state, side, hypervisor),
         Command::Access {
             strand,
             kind,
@@ -226,8 +287,7 @@ pub fn question(state: &[u64], command: Command) -> Verdict
             address,
         } => ask_access(state, strand, kind, selector, size, address),
         Command::Read { strand, register } => ask_read(state, strand, register),
-        // Pointers ask what a demap all asks.
-        Command::Pointers { strand, side } => ask_demap_all(state, strand, side),
+        Command::Pointers { strand, side } => ask_open(state, strand, side, true),
         Command::Rate { strand, side } => ask_rate(state, strand, side),
     }
 }

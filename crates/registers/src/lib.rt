@@ -2,6 +2,7 @@
 ghost use mathlib.Core.Path.{_≡_};
 ghost use mathlib.Core.Bool.{true};
 ghost use Prim.Native.Nat.{_+_};
+ghost use Rattle.machine.specs.Permission.{guestWritable};
 ghost use Rattle.machine.specs.Registers.{known, writable, baseAllowed, configurationAllowed, allowed, registersSound};
 ghost use Rattle.registers.specs.Cells.{Range, Strand, CellsTold};
 
@@ -21,6 +22,18 @@ pub fn is_writable(number: u8) -> bool
     ensures { λ r. ⌜ r ≡ writable number ⌝ }
 {
     number < machine::FAULT_ADDRESS && is_known(number)
+}
+
+// Open to mode 1 (number 16): contexts, address mask, and from the TSB bases on to tag access.
+pub fn is_guest_writable(number: u8) -> bool
+    ensures { λ r. ⌜ r ≡ guestWritable number ⌝ }
+{
+    match number {
+        1..=2 => true,
+        5 => true,
+        8..=21 => true,
+        _ => false,
+    }
 }
 
 // A TSB base: bits 12:4 zero.

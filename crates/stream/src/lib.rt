@@ -6,10 +6,10 @@ use machine::Decoded;
 use machine::Report;
 
 // An answer of 24 bytes into the output for every command taken. Every word of the state and every byte of the output is what `runOf`
-// says, whatever the state, the input and the room.
-pub fn run(state: &mut [u64], input: &[u8], output: &mut [u8]) -> Report
+// says, whatever the state, the input and the room. `hypervisor` is the stream's mark.
+pub fn run(state: &mut [u64], input: &[u8], output: &mut [u8], hypervisor: bool) -> Report
     ensures { λ r. ⌜ outcome (now (state .exit)) (now (output .exit)) r
-        ≡ runOf counts (now (state .entry)) (now (input .entry)) (now (output .entry)) ⌝ }
+        ≡ runOf hypervisor counts (now (state .entry)) (now (input .entry)) (now (output .entry)) ⌝ }
 {
     if !state::state_sound(state) {
         return Report {
@@ -39,7 +39,7 @@ pub fn run(state: &mut [u64], input: &[u8], output: &mut [u8]) -> Report
                 stop: wire::stop_number(decoded),
             };
         };
-        let answer = mmu::execute(state, &mut hints, command);
+        let answer = mmu::execute(state, &mut hints, command, hypervisor);
         wire::put_answer(output, answered * machine::ANSWER_BYTES, answer);
         at += width;
         answered += 1;

@@ -1,7 +1,7 @@
 -- From what the crates below ensure to what the calls promise: the theorems of `machine`, put to one call. Assumes nothing.
 use Prim.Native.Nat.{ℕ}
 use mathlib.Core.Path.{_≡_, ap, sym, subst}
-use mathlib.Core.Bool.{true}
+use mathlib.Core.Bool.{Bool, true}
 use mathlib.Core.List.{List}
 use Rattle.machine.specs.State.{counts, resetOf, resetNumber}
 use Rattle.machine.specs.Stream.{Bytes, Outcome, outcome, runOf}
@@ -18,18 +18,19 @@ use Rattle.machine.proofs.Reference.{sold}
 use Rattle.t1mmu.specs.Equal.{Equal}
 
 -- a run that comes to the unit's outcome
-pub run-call : (words : List ℕ) (input output : Bytes) (left : List ℕ) (written : Bytes) (r : Report) → outcome left written r ≡ runOf counts words input output
-    → RunTold slots words input output left written r × (Equal (runOf counts words input output) left written r × (Told counts slots × Demand3 counts))
-run-call words input output left written r e =
-    let equal : Equal (runOf counts words input output) left written r = record {
+pub run-call : (hv : Bool) (words : List ℕ) (input output : Bytes) (left : List ℕ) (written : Bytes) (r : Report)
+    → outcome left written r ≡ runOf hv counts words input output
+    → RunTold hv slots words input output left written r × (Equal (runOf hv counts words input output) left written r × (Told counts slots × Demand3 counts))
+run-call hv words input output left written r e =
+    let equal : Equal (runOf hv counts words input output) left written r = record {
       words = ap (λ (o : Outcome). o .words) e;
       bytes = ap (λ (o : Outcome). o .output) e;
       answered = ap (λ (o : Outcome). o .answered) e;
       taken = ap (λ (o : Outcome). o .taken) e;
       stop = ap (λ (o : Outcome). o .stop) e;
     } in
-    let as-told : RunTold slots words input output left written r =
-    subst (λ (o : Outcome). RunTold slots words input output (o .words) (o .output) (returned o)) (sym e) (sold .run words input output) in
+    let as-told : RunTold hv slots words input output left written r =
+    subst (λ (o : Outcome). RunTold hv slots words input output (o .words) (o .output) (returned o)) (sym e) (sold .run hv words input output) in
     (as-told, (equal, (sold, demand3 counts)))
 
 -- a reset that comes to the unit's

@@ -62,6 +62,32 @@ pub enum Broken {
     OneRecordForSides,
     /// invalidation empties the side's records
     InvalidateForgetsLookups,
+    /// number 16 is asked before number 10
+    ModeBeforeValue,
+    /// before number 8
+    ModeBeforeFlags,
+    /// before number 6
+    ModeBeforeSide,
+    /// after number 11
+    ModeAfterRange,
+    /// after numbers 12 and 13
+    ModeAfterSlot,
+    /// after number 15
+    ModeAfterRecord,
+    /// every strand is asked for the mode of strand 0
+    ModeOfStrand0,
+    Mode1WritesPartition,
+    Mode1WritesMode,
+    Mode1WritesTranslation,
+    Mode1InsertsReal,
+    Mode1InsertsLocked,
+    Mode1DemapsAll,
+    /// a real page is demapped in mode 2 alone
+    RealDemapByMode2,
+    /// a stream marked as the hypervisor's may send everything
+    HypervisorMayAll,
+    /// a stream that is not marked so may send invalidate
+    InvalidateUnmarked,
     /// the miss handler takes the table of the other contexts
     ServeSwapped,
     /// N of the ps1 table
@@ -105,6 +131,8 @@ pub enum Broken {
     ServeWrites,
     /// in mode 2 nothing is in the table
     ServeByMode,
+    /// in mode 0 a fit gets number 16
+    ServeAsksMode,
     ServeLittleEndian,
     /// a serve counts as a lookup
     ServeNoted,
@@ -140,6 +168,22 @@ const NAMES: &[(&str, Broken)] = &[
     ("rate-asked-before-side", Broken::RateAskedBeforeSide),
     ("one-record-for-sides", Broken::OneRecordForSides),
     ("invalidate-forgets-lookups", Broken::InvalidateForgetsLookups),
+    ("mode-before-value", Broken::ModeBeforeValue),
+    ("mode-before-flags", Broken::ModeBeforeFlags),
+    ("mode-before-side", Broken::ModeBeforeSide),
+    ("mode-after-range", Broken::ModeAfterRange),
+    ("mode-after-slot", Broken::ModeAfterSlot),
+    ("mode-after-record", Broken::ModeAfterRecord),
+    ("mode-of-strand-0", Broken::ModeOfStrand0),
+    ("mode-1-writes-partition", Broken::Mode1WritesPartition),
+    ("mode-1-writes-mode", Broken::Mode1WritesMode),
+    ("mode-1-writes-translation", Broken::Mode1WritesTranslation),
+    ("mode-1-inserts-real", Broken::Mode1InsertsReal),
+    ("mode-1-inserts-locked", Broken::Mode1InsertsLocked),
+    ("mode-1-demaps-all", Broken::Mode1DemapsAll),
+    ("real-demap-by-mode-2", Broken::RealDemapByMode2),
+    ("hypervisor-may-all", Broken::HypervisorMayAll),
+    ("invalidate-unmarked", Broken::InvalidateUnmarked),
     ("serve-swapped", Broken::ServeSwapped),
     ("serve-ps1-base", Broken::ServePs1Base),
     ("serve-ps1-size", Broken::ServePs1Size),
@@ -164,6 +208,7 @@ const NAMES: &[(&str, Broken)] = &[
     ("serve-unused", Broken::ServeUnused),
     ("serve-writes", Broken::ServeWrites),
     ("serve-by-mode", Broken::ServeByMode),
+    ("serve-asks-mode", Broken::ServeAsksMode),
     ("serve-little-endian", Broken::ServeLittleEndian),
     ("serve-noted", Broken::ServeNoted),
 ];

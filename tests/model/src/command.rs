@@ -17,6 +17,16 @@ pub enum Command {
     Rate { strand: u8, side: u8 },
 }
 
+/// The strand byte of a command; invalidate has none.
+pub fn strand_of(command: Command) -> Option<u8> {
+    match command {
+        Command::Write { strand, .. } | Command::Insert { strand, .. } | Command::DemapPage { strand, .. } => Some(strand),
+        Command::DemapContext { strand, .. } | Command::DemapAll { strand, .. } | Command::Access { strand, .. } => Some(strand),
+        Command::Read { strand, .. } | Command::Pointers { strand, .. } | Command::Rate { strand, .. } => Some(strand),
+        Command::Invalidate { .. } => None,
+    }
+}
+
 /// Code and operands together, in bytes; none for an unknown code.
 pub fn width(code: u8) -> Option<usize> {
     match code {

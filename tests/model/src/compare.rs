@@ -2,6 +2,7 @@
 use crate::command::{decode, disassembly, width};
 use crate::coverage::Coverage;
 use crate::generate::{Run, Scene};
+use crate::guests;
 use crate::ledger::Ledger;
 use crate::library;
 use crate::model::{self, Model, Part, Report};
@@ -69,6 +70,7 @@ pub fn stream(seed: u64) -> Stream {
     let mut r = Random::new(seed);
     let scene = Scene::new(&mut r);
     let start = match r.below(100) {
+        _ if scene.guests => Start::Sound,
         0..=49 => Start::Reset,
         50 => Start::Noise,
         _ => r.pick(&OTHER_STARTS),
@@ -77,15 +79,25 @@ pub fn stream(seed: u64) -> Stream {
     let runs = 1 + r.below(4);
     let each = r.pick(&[3, 20, 60, 200]);
     let misses = r.pick(&[0, 0, 1, 2, 4]);
+    // what the runs so far leave; a serve writes no register
+    let mut state = Model::from_words(&words).unwrap_or_else(Model::reset);
     let mut steps = Vec::new();
     for i in 0..runs {
-        steps.push(Step::Run(scene.run(&mut r, i == 0 && start == Start::Reset, each)));
+        let run = scene.run(&mut r, &state, i == 0 && start == Start::Reset, each);
+        take(&mut state, &run);
+        steps.push(Step::Run(run));
         for _ in 0..misses {
-            let (before, miss, after) = scene.miss(&mut r);
+            let (before, miss, after) = scene.miss(&mut r, &state);
+            [&before, &after].into_iter().for_each(|run| take(&mut state, run));
             steps.extend([Step::Run(before), Step::Serve(miss), Step::Run(after)]);
         }
     }
     Stream { seed, start, words, steps }
+}
+
+fn take(state: &mut Model, run: &Run) {
+    state.run_commands(run.hypervisor, &run.input, &mut vec![0; run.room]);
+    state.events.clear();
 }
 
 /// Memory with guard cells on both sides, all filled with a pattern.
@@ -192,8 +204,8 @@ impl Walk<'_> {
         let mut out_ours = Guarded::new(run.room, || self.r.next() as u8);
         let mut out_theirs = Guarded { cells: out_ours.cells.clone(), length: run.room };
         let input = run.input.clone();
-        let (report, events) = model::run(ours.inner(), &run.input, out_ours.inner());
-        let got = library::run(theirs.inner(), &input, out_theirs.inner());
+        let (report, events) = model::run(ours.inner(), run.hypervisor, &run.input, out_ours.inner());
+        let got = library::run(theirs.inner(), run.hypervisor, &input, out_theirs.inner());
         if report != got {
             return Err(format!("report: model {report:?}, library {got:?}"));
         }
@@ -203,6 +215,8 @@ impl Walk<'_> {
         if input != run.input {
             return Err("the input was written".to_string());
         }
+        let confined = guests::confined(&self.words, run, report.taken, theirs.inner())?;
+        self.coverage.confined(&confined);
         self.words.copy_from_slice(theirs.inner());
         self.coverage.stop(report.stop);
         self.coverage.events(&events);
@@ -247,7 +261,7 @@ impl Walk<'_> {
 fn compare_ledger(ledger: &mut Ledger, run: &Run, answers: &[u8], counts: &mut Counts) -> Result<(), String> {
     let mut at = 0;
     for (i, answer) in answers.chunks(ANSWER_BYTES).enumerate() {
-        let given = ledger.answer(decode(&run.input[at..]), answer);
+        let given = ledger.answer(decode(&run.input[at..]), run.hypervisor, answer);
         if given.as_ref().map(|b| &b[..]) != Some(answer) {
             return Err(format!("answer {i} (input byte {at}): ledger {given:02x?}, library {answer:02x?}"));
         }
@@ -348,8 +362,8 @@ pub fn shrink(stream: &mut Stream) {
 }
 
 fn shrink_run(stream: &mut Stream, i: usize, differs: &dyn Fn(&Stream) -> bool) {
-    let Step::Run(Run { input, room }) = &stream.steps[i] else { return };
-    let (mut whole, room) = (input.clone(), *room);
+    let Step::Run(Run { hypervisor, input, room }) = &stream.steps[i] else { return };
+    let (hypervisor, mut whole, room) = (*hypervisor, input.clone(), *room);
     let mut starts = Vec::new();
     let mut at = 0;
     while let Some(w) = whole.get(at).and_then(|&b| width(b)) {
@@ -359,12 +373,12 @@ fn shrink_run(stream: &mut Stream, i: usize, differs: &dyn Fn(&Stream) -> bool) 
     for &(at, w) in starts.iter().rev() {
         let end = (at + w).min(whole.len());
         let cut = [&whole[..at], &whole[end..]].concat();
-        stream.steps[i] = Step::Run(Run { input: cut.clone(), room });
+        stream.steps[i] = Step::Run(Run { hypervisor, input: cut.clone(), room });
         if differs(stream) {
             whole = cut;
         }
     }
-    stream.steps[i] = Step::Run(Run { input: whole, room });
+    stream.steps[i] = Step::Run(Run { hypervisor, input: whole, room });
 }
 
 /// The failing case for a reader.
@@ -372,7 +386,10 @@ pub fn told(stream: &Stream, error: &str) -> String {
     let mut text = format!("seed {:#x}, start {:?}: {error}\n", stream.seed, stream.start);
     for (i, step) in stream.steps.iter().enumerate() {
         text += &match step {
-            Step::Run(run) => format!(" step {i}, a run, room {}\n{}", run.room, disassembly(&run.input)),
+            Step::Run(run) => {
+                let of = if run.hypervisor { " of the hypervisor" } else { "" };
+                format!(" step {i}, a run{of}, room {}\n{}", run.room, disassembly(&run.input))
+            }
             Step::Serve(miss) => format!(" step {i}, a serve\n{}", miss.told()),
         };
     }

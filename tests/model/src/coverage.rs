@@ -1,11 +1,14 @@
-//! How often each answer, refusal, trap, stop, start state, way of an insertion, outcome of a serve and sort of rate occurred; a comparison
-//! that never met one of them shows little.
-use crate::model::{Choice, Entry, Event, Misfit, CHOICES, MISFITS};
+//! How often each answer, refusal, trap, stop, start state, way of an insertion, outcome of a serve, sort of rate and permission occurred; a
+//! comparison that never met one of them shows little.
+use crate::command::{encode, Command};
+use crate::guests::Confined;
+use crate::model::{Choice, Entry, Event, Misfit, Permission, CHOICES, MISFITS};
 use crate::states::{Start, STARTS};
+use std::collections::BTreeMap;
 
 /// Command codes, and the numbers of commands' refusals, are below these.
 const CODES: usize = 11;
-const NUMBERS: usize = 16;
+const NUMBERS: usize = 17;
 
 pub struct Coverage {
     commands: [u64; CODES],
@@ -30,8 +33,29 @@ pub struct Coverage {
     rated: [[u64; 3]; 2],
     /// by start: sound, not sound
     starts: [[u64; 2]; STARTS.len()],
+    permissions: Permissions,
     serves: Serves,
 }
+
+#[derive(Default)]
+struct Permissions {
+    /// by command, mode of the strand that it names, mark of the stream, and whether it is permitted
+    asked: BTreeMap<(Sort, Option<u64>, bool, bool), u64>,
+    /// by command code and by the number that 16 came before
+    before: BTreeMap<(u8, u8), u64>,
+    /// sides under runs of guests alone, by `CONFINED`
+    guests: [u64; CONFINED.len()],
+}
+
+const CONFINED: [(&str, fn(&Confined) -> bool); 4] = [
+    ("a locked entry of another partition kept", |side| side.kept > 0),
+    ("such an entry kept on a full side", |side| side.kept > 0 && side.full),
+    ("such an entry kept on a full side that changed", |side| side.kept > 0 && side.full && side.changed),
+    ("a locked entry of their own gone", |side| side.lost > 0),
+];
+
+/// A command, of a write with its register and of an insertion or a demap of a page with its flags.
+type Sort = (u8, u8);
 
 #[derive(Default)]
 struct Serves {
@@ -43,8 +67,8 @@ struct Serves {
     /// table zero or the other looked at; by whether the table that was not looked at had a length of its own
     tables: [[u64; 2]; 2],
     misfits: [u64; MISFITS.len()],
-    /// by N and by size code
-    fits: [[u64; 6]; 2],
+    /// by N, by size code and by the strand's mode
+    fits: [[u64; 6]; 3],
     free_bits: u64,
     overlaps: u64,
     /// in this stream, and lookups that found one of them
@@ -56,9 +80,33 @@ struct Serves {
 const HANDED: [usize; 4] = [1, 5, 6, 14];
 const SERVED: [usize; 3] = [11, 12, 13];
 
-/// Which numbers a command can meet: 5 to 13 of "Questions before a command acts", and 15.
-const ASKED: [&[u8]; CODES] =
-    [&[], &[5, 9, 10], &[5, 6, 8, 11, 12, 13], &[5, 6, 7, 8, 11], &[5, 6, 7], &[5, 6], &[6], &[5, 6, 7, 8], &[5, 9], &[5, 6], &[5, 6, 15]];
+/// Which numbers a command can meet: 5 to 13 of "Questions before a command acts", 15 and 16.
+const ASKED: [&[u8]; CODES] = [
+    &[],
+    &[5, 9, 10, 16],
+    &[5, 6, 8, 16, 11, 12, 13],
+    &[5, 6, 7, 8, 16, 11],
+    &[5, 6, 7, 16],
+    &[5, 6, 16],
+    &[6, 16],
+    &[5, 6, 7, 8],
+    &[5, 9],
+    &[5, 6, 16],
+    &[5, 6, 16, 15],
+];
+
+/// The numbers that 16 comes before, by command code.
+const AFTER_16: [(u8, u8); 5] = [(2, 11), (2, 12), (2, 13), (3, 11), (10, 15)];
+
+/// Each sort of command that names a strand, and the modes that may send it: document 02's U6 as a table.
+fn table() -> Vec<(Sort, [bool; 3])> {
+    let [all, guests, hypervisor] = [[true; 3], [false, true, true], [false, false, true]];
+    let writes = [0, 3, 4].map(|n| ((1, n), hypervisor)).into_iter().chain([1, 2, 5].into_iter().chain(8..22).map(|n| ((1, n), guests)));
+    let insertions = (0..4).map(|flags| ((2, flags), if flags == 0 { guests } else { hypervisor }));
+    let demaps = [((3, 0), guests), ((3, 1), guests), ((4, 0), guests), ((5, 0), hypervisor)];
+    let others = [((7, 0), all), ((8, 0), all), ((9, 0), guests), ((10, 0), guests)];
+    writes.chain(insertions).chain(demaps).chain(others).collect()
+}
 
 /// Every trap number with every fault type that it can have.
 const TRAPS: [(usize, &[usize]); 9] = [
@@ -104,6 +152,7 @@ impl Default for Coverage {
             found: [[0; 6]; 2],
             rated: [[0; 3]; 2],
             starts: [[0; 2]; STARTS.len()],
+            permissions: Permissions::default(),
             serves: Serves::default(),
         }
     }
@@ -121,6 +170,59 @@ fn misfit_told(misfit: Misfit) -> &'static str {
     }
 }
 
+fn sort_of(command: Command) -> Sort {
+    let detail = match command {
+        Command::Write { register, .. } => register,
+        Command::Insert { flags, .. } | Command::DemapPage { flags, .. } => flags,
+        _ => 0,
+    };
+    (encode(command)[0], detail)
+}
+
+fn sort_told((code, detail): Sort) -> String {
+    match code {
+        1 => format!("write of register {detail}"),
+        2 => format!("insertion with flags {detail}"),
+        3 => format!("demap page with flags {detail}"),
+        _ => format!("command {code:#04x}"),
+    }
+}
+
+impl Permissions {
+    fn asked(&mut self, command: Command, mode: Option<u64>, hypervisor: bool, told: Permission) {
+        let sort = sort_of(command);
+        *self.asked.entry((sort, mode, hypervisor, told == Permission::Permitted)).or_default() += 1;
+        if let Permission::Refused { before: Some(number) } = told {
+            *self.before.entry((sort.0, number)).or_default() += 1;
+        }
+    }
+
+    fn confined(&mut self, side: &Confined) {
+        self.guests.iter_mut().zip(CONFINED).for_each(|(count, (_, met))| *count += met(side) as u64);
+    }
+
+    fn items(&self, all: &mut Vec<(String, u64)>) {
+        let times = |key| self.asked.get(&key).copied().unwrap_or(0);
+        let streams = [(false, "unmarked"), (true, "marked")];
+        for (sort, modes) in table() {
+            for (mode, permitted) in modes.into_iter().enumerate() {
+                for (hypervisor, stream) in streams {
+                    let told = if permitted { "permitted" } else { "refused" };
+                    let name = format!("{} {told}, mode {mode}, {stream}", sort_told(sort));
+                    all.push((name, times((sort, Some(mode as u64), hypervisor, permitted))));
+                }
+            }
+        }
+        all.push(("invalidate refused, unmarked".to_string(), times(((6, 0), None, false, false))));
+        all.push(("invalidate permitted, marked".to_string(), times(((6, 0), None, true, true))));
+        for (code, number) in AFTER_16 {
+            let count = self.before.get(&(code, number)).copied().unwrap_or(0);
+            all.push((format!("command {code:#04x} refused 16 before {number}"), count));
+        }
+        all.extend(CONFINED.iter().zip(self.guests).map(|((name, _), count)| (format!("guests: {name}"), count)));
+    }
+}
+
 impl Serves {
     fn event(&mut self, event: &Event) {
         match event {
@@ -130,15 +232,17 @@ impl Serves {
             }
             Event::Looked { other, unused_right } => self.tables[*other as usize][*unused_right as usize] += 1,
             Event::Misfit(misfit) => self.misfits[MISFITS.iter().position(|(m, _)| m == misfit).expect("a misfit")] += 1,
-            Event::Fits { n, code, free_bits } => {
+            Event::Fits { mode, n, code, free_bits } => {
                 if let Some(count) = self.fits[0].get_mut(*n as usize) {
                     *count += 1;
                 }
                 self.fits[1][*code as usize] += 1;
+                self.fits[2][*mode as usize] += 1;
                 self.free_bits += *free_bits as u64;
             }
             Event::Served(entry) => self.entries.push(*entry),
-            Event::Found(_) | Event::Translated { .. } | Event::Bypassed { .. } | Event::IoFault { .. } | Event::Rated { .. } => unreachable!("of a run"),
+            Event::Asked { .. } | Event::Found(_) | Event::Translated { .. } | Event::Bypassed { .. } => unreachable!("of a run"),
+            Event::IoFault { .. } | Event::Rated { .. } => unreachable!("of a run"),
         }
     }
 
@@ -163,6 +267,7 @@ impl Serves {
         }
         (0..=5).for_each(|n: usize| all.push((format!("fit with N {n}"), self.fits[0][n])));
         [0, 1, 3, 5].iter().for_each(|&code: &usize| all.push((format!("fit with size code {code}"), self.fits[1][code])));
+        (0..=2).for_each(|mode: usize| all.push((format!("fit in mode {mode}"), self.fits[2][mode])));
         all.push(("fit with size code 5 and other tag bits 5:0".to_string(), self.free_bits));
         all.push(("serve struck an overlapping entry".to_string(), self.overlaps));
         all.push(("lookup found an entry of a serve".to_string(), self.found));
@@ -183,6 +288,7 @@ impl Coverage {
     pub fn events(&mut self, events: &[Event]) {
         for event in events {
             match event {
+                Event::Asked { command, mode, hypervisor, told } => self.permissions.asked(*command, *mode, *hypervisor, *told),
                 Event::Inserted(choice) => self.choices[CHOICES.iter().position(|c| c == choice).expect("a choice")] += 1,
                 Event::Found(entry) => {
                     self.found[entry.real as usize][(entry.word & 15) as usize] += 1;
@@ -199,6 +305,11 @@ impl Coverage {
                 _ => unreachable!("of a serve"),
             }
         }
+    }
+
+    /// Both sides under a run of guests alone.
+    pub fn confined(&mut self, sides: &[Confined]) {
+        sides.iter().for_each(|side| self.permissions.confined(side));
     }
 
     /// A hand back's number and a serve's answer, and what happened inside.
@@ -263,6 +374,7 @@ impl Coverage {
                 all.push((format!("rate {rate} of {many} lookups"), self.rated[full][n]));
             }
         }
+        self.permissions.items(&mut all);
         self.serves.items(&mut all);
         self.start_items(&mut all);
         all

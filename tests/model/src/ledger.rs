@@ -1,6 +1,6 @@
 //! The plain machine of demand 3: registers, two lists of entries by age, and every lookup that was made. It has no slots and no used bits,
-//! and it is written again from "The ledger" and from document 02's U1 and U5, sharing nothing with the model but the decoded command and the
-//! counts of the machine.
+//! and it is written again from "The ledger" and from document 02's U1, U5 and U6, sharing nothing with the model but the decoded command
+//! and the counts of the machine.
 use crate::command::Command;
 use t1mmu::numbers::{ANSWER_BYTES, KEPT_LOOKUPS, REGISTERS, SIDES, SLOTS, STRANDS, TSB_ENTRY_BYTES};
 
@@ -100,8 +100,9 @@ impl Ledger {
     }
 
     /// The answer of the ledger, fed what the unit's answer names as displaced; none where the name is not that of a live unlocked entry.
-    pub fn answer(&mut self, command: Command, of_the_unit: &[u8]) -> Option<Bytes> {
-        match self.refused(command) {
+    /// The stream is the hypervisor's, or it is not.
+    pub fn answer(&mut self, command: Command, hypervisor: bool, of_the_unit: &[u8]) -> Option<Bytes> {
+        match self.refused(command, hypervisor) {
             Some(number) => Some(bytes([5, number, 0, 0], 0, 0)),
             None => self.accepted(command, named_by(of_the_unit)),
         }
@@ -123,8 +124,8 @@ impl Ledger {
         Item { partition: r[0], real, context: if real { 0 } else { tag % 8192 }, page: tag >> by << by, lock: flags / 2 == 1, word }
     }
 
-    /// The questions that an answer refuses by, asked of the ledger's own registers and lists.
-    fn refused(&self, command: Command) -> Option<u8> {
+    /// The questions that an answer refuses by, asked of the ledger's own registers and lists, and of the stream.
+    fn refused(&self, command: Command, hypervisor: bool) -> Option<u8> {
         let (strand, side) = match command {
             Command::Write { strand, .. } | Command::Read { strand, .. } => (strand, 0),
             Command::Insert { strand, side, .. } | Command::DemapPage { strand, side, .. } => (strand, side),
@@ -139,11 +140,19 @@ impl Ledger {
         if side > 1 {
             return Some(6);
         }
-        self.refused_later(command, strand, side)
+        let malformed = self.malformed(command, strand, side);
+        if malformed.is_some() {
+            return malformed;
+        }
+        let lets = match command {
+            Command::Invalidate { .. } => hypervisor,
+            _ => self.mode_lets(command, strand),
+        };
+        if lets { self.unfit(command, strand, side) } else { Some(16) }
     }
 
-    /// 7 and on; strand and side are good.
-    fn refused_later(&self, command: Command, strand: u8, side: u8) -> Option<u8> {
+    /// 7 to 10; strand and side are good.
+    fn malformed(&self, command: Command, strand: u8, side: u8) -> Option<u8> {
         let r = &self.registers[strand as usize];
         let is_register = |n: u8| n < 26 && n != 6 && n != 7;
         match command {
@@ -152,11 +161,36 @@ impl Ledger {
             Command::Read { register, .. } if !is_register(register) => Some(9),
             Command::DemapPage { selector, .. } | Command::DemapContext { selector, .. } if selector > 2 || side == 0 && selector == 1 => Some(7),
             Command::DemapPage { flags, .. } if flags > 1 => Some(8),
-            Command::DemapPage { address, .. } if !reachable(address) => Some(11),
             Command::Access { selector, .. } if selector > 2 || side == 0 && selector == 1 => Some(7),
             Command::Access { kind: 0, selector: 2, .. } if r[3] == 0 => Some(7),
             Command::Access { kind, size, .. } if size > 3 || kind == 0 && size != 2 => Some(8),
             Command::Insert { flags, .. } if flags > 3 => Some(8),
+            _ => None,
+        }
+    }
+
+    /// What a user sends, what a privileged guest sends beside it, and everything.
+    fn mode_lets(&self, command: Command, strand: u8) -> bool {
+        let user = || matches!(command, Command::Access { .. } | Command::Read { .. });
+        let guest = || match command {
+            Command::Write { register, .. } => [1, 2, 5].contains(&register) || (8..22).contains(&register),
+            // neither real nor locked
+            Command::Insert { flags, .. } => flags == 0,
+            Command::DemapPage { .. } | Command::DemapContext { .. } | Command::Pointers { .. } | Command::Rate { .. } => true,
+            _ => false,
+        };
+        match self.registers[strand as usize][3] {
+            0 => user(),
+            1 => user() || guest(),
+            _ => true,
+        }
+    }
+
+    /// 11 and on, asked of what is well formed and let through.
+    fn unfit(&self, command: Command, strand: u8, side: u8) -> Option<u8> {
+        let r = &self.registers[strand as usize];
+        match command {
+            Command::DemapPage { address, .. } if !reachable(address) => Some(11),
             Command::Insert { .. } if !reachable(r[20 + side as usize]) => Some(11),
             Command::Insert { word, .. } if !good_word(word) => Some(12),
             Command::Insert { flags, word, .. } => {
@@ -354,7 +388,12 @@ impl Ledger {
         if !(tag_agrees(tag, key, ps0) && word >= 1 << 63 && word % 16 == ps0) {
             return Some(bytes([6, 0, 0, 0], 0, 0));
         }
-        self.answer(Command::Insert { strand, side, flags: 0, word }, of_the_unit)
+        // the host's call, whatever the strand's mode is
+        let insertion = Command::Insert { strand, side, flags: 0, word };
+        match self.unfit(insertion, strand, side) {
+            Some(number) => Some(bytes([5, number, 0, 0], 0, 0)),
+            None => self.accepted(insertion, named_by(of_the_unit)),
+        }
     }
 }
 

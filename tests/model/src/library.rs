@@ -7,9 +7,10 @@ pub fn reset(state: &mut [u64]) -> u8 {
     unsafe { sys::t1mmu_reset(state.as_mut_ptr(), state.len()) }
 }
 
-pub fn run(state: &mut [u64], input: &[u8], output: &mut [u8]) -> Report {
+pub fn run(state: &mut [u64], hypervisor: bool, input: &[u8], output: &mut [u8]) -> Report {
+    let run = if hypervisor { sys::t1mmu_run_hypervisor } else { sys::t1mmu_run };
     // SAFETY: three ranges of three slices, which do not overlap.
-    unsafe { sys::t1mmu_run(state.as_mut_ptr(), state.len(), input.as_ptr(), input.len(), output.as_mut_ptr(), output.len()) }
+    unsafe { run(state.as_mut_ptr(), state.len(), input.as_ptr(), input.len(), output.as_mut_ptr(), output.len()) }
 }
 
 pub fn hand_back(state: &[u64], strand: u8, side: u8, [zero, other]: [&[u8]; 2]) -> Part {

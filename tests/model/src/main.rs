@@ -11,11 +11,12 @@ const USAGE: &str = "model [--seed N] [--streams N] [--broken NAME] [--quiet] [-
   --streams N     random streams (default 20000); each has one to four runs
   --seed N        the first stream's seed (default 1); stream i has seed N + i
   --broken NAME   breaks the model on purpose: the comparison has to fail
-  --vectors FILE  hand-checked runs through model, ledger and library, and through the program
+  --vectors FILE  hand-checked runs through model, ledger and library, and through the program where they are not marked as the hypervisor's
   --misses FILE   hand-checked serves through model, ledger and library
   --printed A B   the stream program's input A and its output B, likewise
   --program PATH  the stream program; it takes the runs of every 40th stream, too, each from reset
-  --sweeps        operands, registers, attributes, one-bit flips of a state, page sizes side by side, histories of lookups: each case once
+  --sweeps        operands, registers, attributes, permissions, one-bit flips of a state, page sizes side by side, histories of lookups:
+                  each case once
   --quiet         no coverage table";
 
 struct Options {
@@ -78,11 +79,11 @@ fn text_of(path: &String) -> String {
     String::from_utf8(read_file(path)).unwrap_or_else(|e| fail(&e.to_string()))
 }
 
-/// Whether the runs in a file changed since version 2.0.0 only where they come to the byte 0x0A; 1 where anything else did.
+/// Whether the answers in a file changed since version 3.0.0 only by number 16; 1 where anything else did.
 fn changed(path: &String) -> u64 {
     match changes::count(&text_of(path)) {
-        Ok(n) => println!("model: {path}: {n} runs changed since version 2.0.0, by the byte 0x0A alone"),
-        Err(error) => return differs(path, "runs since version 2.0.0", "", &format!("{error}\n")),
+        Ok(n) => println!("model: {path}: {n} answers and parts changed since version 3.0.0, by number 16 and what follows from it"),
+        Err(error) => return differs(path, "answers since version 3.0.0", "", &format!("{error}\n")),
     }
     0
 }
@@ -110,18 +111,23 @@ fn fixed_runs(o: &Options) -> u64 {
         fail("no vector was read");
     }
     if let Some((input, output)) = &o.printed {
-        all.push(Vector { name: "the printed run".to_string(), input: read_file(input), output: text_of(output) });
+        all.push(Vector { name: "the printed run".to_string(), hypervisor: false, input: read_file(input), output: text_of(output) });
     }
     let mut differ = 0;
     for v in &all {
-        differ += differs(&v.name, "model", &v.output, &vectors::by_model(&v.input));
+        differ += differs(&v.name, "model", &v.output, &vectors::by_model(v.hypervisor, &v.input));
         differ += differs(&v.name, "ledger", &v.output, &vectors::by_ledger(v));
-        differ += differs(&v.name, "library", &v.output, &vectors::by_library(&v.input));
-        differ += o.program.as_ref().map_or(0, |p| differs(&v.name, "stream program", &v.output, &printed_by(p, &v.input)));
+        differ += differs(&v.name, "library", &v.output, &vectors::by_library(v.hypervisor, &v.input));
+    }
+    // its streams are not marked
+    let programs = all.iter().filter(|v| !v.hypervisor).flat_map(|v| o.program.as_ref().map(|p| (v, p)));
+    let mut by_program = 0;
+    for (v, program) in programs {
+        by_program += 1;
+        differ += differs(&v.name, "stream program", &v.output, &printed_by(program, &v.input));
     }
     if !all.is_empty() {
-        let program = if o.program.is_some() { " and stream program" } else { "" };
-        println!("model: {} fixed runs through model, ledger, library{program}, {differ} differ", all.len());
+        println!("model: {} fixed runs through model, ledger and library, {by_program} through the stream program, {differ} differ", all.len());
     }
     differ
 }
@@ -142,7 +148,7 @@ fn program_runs(o: &Options, program: &str) -> u64 {
         // it cannot serve, so it gets the runs alone
         for run in stream(seed).runs() {
             runs += 1;
-            differ += differs(&format!("seed {seed}"), "stream program", &vectors::by_model(&run.input), &printed_by(program, &run.input));
+            differ += differs(&format!("seed {seed}"), "stream program", &vectors::by_model(false, &run.input), &printed_by(program, &run.input));
         }
     }
     println!("model: {runs} runs of the stream program, {differ} differ");

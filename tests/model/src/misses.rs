@@ -1,5 +1,6 @@
 //! The hand-checked serves. A vector starts from reset, with two tables of no length; its lines are
-//! - `in` and commands in hexadecimal: a run, then its answers and the line `end ..`, as in the other vectors;
+//! - `in` and commands in hexadecimal: a run, then its answers and the line `end ..`, as in the other vectors; `hypervisor` where the stream
+//!   is marked so;
 //! - `zero` or `other`, a length, and entries as byte:tag and word: the table that is lent from there on;
 //! - `word`, an index and a value: a word of the state is set, which the ledger does not follow;
 //! - `serve`, strand and side: then the line `part number other start length` of hand back, and the serve's answer.
@@ -9,7 +10,7 @@ use crate::ledger::Ledger;
 use crate::library;
 use crate::model::{self, Model, Part, Report};
 use crate::tables::{Table, TsbEntry};
-use crate::vectors::{bytes, hex, printed};
+use crate::vectors::{bytes, hex, printed, run_line};
 use t1mmu::numbers::{ANSWER_BYTES, STATE_WORDS};
 
 /// A line that is done, and the lines expected of it.
@@ -19,7 +20,7 @@ struct Line {
 }
 
 enum Input {
-    Run(Vec<u8>),
+    Run { hypervisor: bool, commands: Vec<u8> },
     Table { other: bool, table: Table },
     Word(usize, u64),
     Serve(u8, u8),
@@ -46,9 +47,11 @@ fn table<'a>(mut words: impl Iterator<Item = &'a str>) -> Table {
 
 /// What a line asks for; none where it is expected.
 fn input(line: &str) -> Option<Input> {
+    if let Some((hypervisor, commands)) = run_line(line) {
+        return Some(Input::Run { hypervisor, commands });
+    }
     let mut words = line.split(' ');
     Some(match words.next()? {
-        "in" => Input::Run(bytes(words.next().unwrap_or(""))),
         name @ ("zero" | "other") => Input::Table { other: name == "other", table: table(words) },
         "word" => Input::Word(number(words.next()), number(words.next()) as u64),
         "serve" => Input::Serve(number(words.next()) as u8, number(words.next()) as u8),
@@ -80,13 +83,13 @@ impl Vector {
 
 /// One that runs and serves over words: the model or the library.
 struct Machine {
-    run: fn(&mut [u64], &[u8], &mut [u8]) -> Report,
+    run: fn(&mut [u64], bool, &[u8], &mut [u8]) -> Report,
     hand_back: fn(&[u64], u8, u8, [&[u8]; 2]) -> Part,
     serve: fn(&mut [u64], u8, u8, [&[u8]; 2]) -> [u8; ANSWER_BYTES],
 }
 
 pub fn by_model(vector: &Vector) -> String {
-    let run = |words: &mut [u64], input: &[u8], output: &mut [u8]| model::run(words, input, output).0;
+    let run = |words: &mut [u64], hypervisor: bool, input: &[u8], output: &mut [u8]| model::run(words, hypervisor, input, output).0;
     let serve = |words: &mut [u64], strand: u8, side: u8, tables: [&[u8]; 2]| model::serve(words, strand, side, tables).0;
     given(vector, &Machine { run, hand_back: model::hand_back, serve }, Model::reset().to_words())
 }
@@ -106,9 +109,9 @@ fn given(vector: &Vector, machine: &Machine, mut words: Vec<u64>) -> String {
     for line in &vector.lines {
         let tables = [&lent[0][..], &lent[1][..]];
         match &line.input {
-            Input::Run(input) => {
-                let mut output = vec![0; ANSWER_BYTES * input.len()];
-                let report = (machine.run)(&mut words, input, &mut output);
+            Input::Run { hypervisor, commands } => {
+                let mut output = vec![0; ANSWER_BYTES * commands.len()];
+                let report = (machine.run)(&mut words, *hypervisor, commands, &mut output);
                 text += &printed(report, &output);
             }
             Input::Table { other, table } => lent[*other as usize] = table.bytes(),
@@ -131,7 +134,7 @@ pub fn by_ledger(vector: &Vector) -> String {
             Input::Word(..) => followed = false,
             Input::Table { other, table } => lent[*other as usize] = table.bytes(),
             _ if !followed => text += &line.expected,
-            Input::Run(input) => text += &run_by_ledger(&mut ledger, input, &line.expected),
+            Input::Run { hypervisor, commands } => text += &run_by_ledger(&mut ledger, *hypervisor, commands, &line.expected),
             Input::Serve(strand, side) => text += &serve_by_ledger(&mut ledger, *strand, *side, [&lent[0], &lent[1]], &line.expected),
         }
     }
@@ -142,13 +145,13 @@ fn answer_told(given: Option<[u8; ANSWER_BYTES]>) -> String {
     given.map_or("none\n".to_string(), |g| hex(&g) + "\n")
 }
 
-fn run_by_ledger(ledger: &mut Ledger, input: &[u8], expected: &str) -> String {
+fn run_by_ledger(ledger: &mut Ledger, hypervisor: bool, input: &[u8], expected: &str) -> String {
     let (mut at, mut text) = (0, String::new());
     for line in expected.lines() {
         if line.starts_with("end") {
             return text + line + "\n";
         }
-        text += &answer_told(ledger.answer(decode(&input[at..]), &bytes(line)));
+        text += &answer_told(ledger.answer(decode(&input[at..]), hypervisor, &bytes(line)));
         at += width(input[at]).expect("a known command");
     }
     text

@@ -1,8 +1,8 @@
-//! The unit as document 01 has it, with document 02's miss handler and miss rates: plain structs, one scan for each question. Comments
-//! name the section that decides. Only the places of registers, slots and records in the lent words are the library's; what they mean is
-//! written again, here and in `record`.
+//! The unit as document 01 has it, with document 02's miss handler, miss rates and permissions: plain structs, one scan for each question.
+//! Comments name the section that decides. Only the places of registers, slots and records in the lent words are the library's; what they
+//! mean is written again, here and in `record`.
 use crate::broken::{self, Broken};
-use crate::command::{decode, width, Command};
+use crate::command::{decode, strand_of, width, Command};
 use crate::record::Record;
 use t1mmu::numbers::{cell_at, slot_at, ANSWER_BYTES, CELLS, REGISTERS, SIDES, SLOTS, SLOT_WORDS, STATE_WORDS, STRANDS};
 pub use t1mmu::sys::{Part, Report};
@@ -31,6 +31,8 @@ pub struct Model {
 
 #[derive(Clone, Copy, Debug, PartialEq)]
 pub enum Event {
+    /// number 16 was asked, in the mode of the strand named, none for invalidate
+    Asked { command: Command, mode: Option<u64>, hypervisor: bool, told: Permission },
     Inserted(Choice),
     /// a lookup found this entry
     Found(Entry),
@@ -45,10 +47,17 @@ pub enum Event {
     Looked { other: bool, unused_right: bool },
     /// the TSB entry fails by this alone
     Misfit(Misfit),
-    /// the TSB entry fits; whether its tag has bits that are not compared and differ from the address
-    Fits { n: u64, code: u64, free_bits: bool },
+    /// the TSB entry fits, whatever the strand's mode; whether its tag has bits that are not compared and differ from the address
+    Fits { mode: u64, n: u64, code: u64, free_bits: bool },
     /// an entry that a serve put in
     Served(Entry),
+}
+
+#[derive(Clone, Copy, Debug, PartialEq, Eq)]
+pub enum Permission {
+    Permitted,
+    /// 16; and the number that a permitted command would have been refused by, if any
+    Refused { before: Option<u8> },
 }
 
 /// What a TSB entry can fail to fit by.
@@ -277,7 +286,7 @@ impl Model {
     }
 }
 
-// ---- questions 5 to 13, and 15
+// ---- questions 5 to 13, 15 and 16
 
 fn side_of_kind(kind: u8) -> usize {
     if kind == 0 {
@@ -294,8 +303,67 @@ fn first_failing(questions: &[Question]) -> Option<u8> {
     questions.iter().find(|(_, fails)| *fails).map(|(number, _)| *number)
 }
 
+/// The least mode that may send a command which names a strand (document 02, U6).
+fn least_mode(command: Command) -> u64 {
+    match command {
+        Command::Access { .. } | Command::Read { .. } => 0,
+        Command::DemapPage { flags: 1, .. } if broken::is(Broken::RealDemapByMode2) => 2,
+        Command::DemapPage { .. } | Command::DemapContext { .. } | Command::Pointers { .. } | Command::Rate { .. } => 1,
+        Command::Write { register: 1 | 2 | 5 | 8..=21, .. } | Command::Insert { flags: 0, .. } => 1,
+        Command::Write { register: 4, .. } if broken::is(Broken::Mode1WritesTranslation) => 1,
+        Command::Write { register: 0, .. } if broken::is(Broken::Mode1WritesPartition) => 1,
+        Command::Write { register: 3, .. } if broken::is(Broken::Mode1WritesMode) => 1,
+        Command::Insert { flags: 1, .. } if broken::is(Broken::Mode1InsertsReal) => 1,
+        Command::Insert { flags: 2, .. } if broken::is(Broken::Mode1InsertsLocked) => 1,
+        Command::DemapAll { .. } if broken::is(Broken::Mode1DemapsAll) => 1,
+        Command::Write { .. } | Command::Insert { .. } | Command::DemapAll { .. } => 2,
+        Command::Invalidate { .. } => unreachable!("it names no strand"),
+    }
+}
+
+/// Whether a question comes before 16: those up to 10 do, those from 11 on do not.
+fn asked_before_16(number: u8) -> bool {
+    let misplaced = match number {
+        6 => Broken::ModeBeforeSide,
+        8 => Broken::ModeBeforeFlags,
+        10 => Broken::ModeBeforeValue,
+        11 => Broken::ModeAfterRange,
+        12 | 13 => Broken::ModeAfterSlot,
+        15 => Broken::ModeAfterRecord,
+        _ => return number <= 10,
+    };
+    (number <= 10) != broken::is(misplaced)
+}
+
 impl Model {
-    fn refusal(&self, command: Command) -> Option<u8> {
+    /// The mode of the strand that a command names; its strand is good.
+    fn mode_of(&self, command: Command) -> Option<u64> {
+        let strand = strand_of(command)?;
+        let strand = if broken::is(Broken::ModeOfStrand0) { 0 } else { strand };
+        Some(self.registers[strand as usize][3])
+    }
+
+    /// Number 16: by the mode of the strand, or where there is none by the stream.
+    fn permitted(&self, command: Command, hypervisor: bool) -> bool {
+        match self.mode_of(command) {
+            Some(mode) => mode >= least_mode(command) || hypervisor && broken::is(Broken::HypervisorMayAll),
+            None => hypervisor || broken::is(Broken::InvalidateUnmarked),
+        }
+    }
+
+    /// The first question that fails.
+    fn refusal(&mut self, command: Command, hypervisor: bool) -> Option<u8> {
+        let other = self.refusal_but_16(command);
+        if other.is_some_and(asked_before_16) {
+            return other;
+        }
+        let permitted = self.permitted(command, hypervisor);
+        let told = if permitted { Permission::Permitted } else { Permission::Refused { before: other } };
+        self.events.push(Event::Asked { command, mode: self.mode_of(command), hypervisor, told });
+        if permitted { other } else { Some(16) }
+    }
+
+    fn refusal_but_16(&self, command: Command) -> Option<u8> {
         // The registers of a strand that is none are never looked at: number 5 comes first.
         let strand_fails = |strand: u8| strand > 3;
         match command {
@@ -768,11 +836,15 @@ impl Model {
         if let Some(number) = asked_first {
             return Answer::Refused { number };
         }
+        if broken::is(Broken::ServeAsksMode) && misfits.is_empty() && self.registers[strand as usize][3] == 0 {
+            return Answer::Refused { number: 16 };
+        }
         if !misfits.is_empty() || broken::is(Broken::ServeByMode) && self.registers[strand as usize][3] == 2 {
             self.events.extend((misfits.len() == 1).then(|| Event::Misfit(misfits[0])));
             return Answer::NotInTable;
         }
-        self.events.push(Event::Fits { n: tsb.n, code: tsb.code, free_bits: eight(&entry[..8]) & 0x3F != tsb.tag >> 22 & 0x3F });
+        let (mode, free_bits) = (self.registers[strand as usize][3], eight(&entry[..8]) & 0x3F != tsb.tag >> 22 & 0x3F);
+        self.events.push(Event::Fits { mode, n: tsb.n, code: tsb.code, free_bits });
         match refusal {
             Some(13) if broken::is(Broken::ServeNever13) => Answer::Done { count: 0 },
             Some(number) => Answer::Refused { number },
@@ -821,8 +893,9 @@ pub fn serve(words: &mut [u64], strand: u8, side: u8, tables: [&[u8]; 2]) -> ([u
 // ---- a command, a run
 
 impl Model {
-    pub fn step(&mut self, command: Command) -> Answer {
-        if let Some(number) = self.refusal(command) {
+    /// A command of a stream, which the caller marks as the hypervisor's or does not.
+    pub fn step(&mut self, command: Command, hypervisor: bool) -> Answer {
+        if let Some(number) = self.refusal(command, hypervisor) {
             return Answer::Refused { number };
         }
         match command {
@@ -863,7 +936,7 @@ impl Model {
     }
 
     /// Commands up to the end of the bytes or to the first that meets 2, 3 or 4.
-    pub fn run_commands(&mut self, input: &[u8], output: &mut [u8]) -> Report {
+    pub fn run_commands(&mut self, hypervisor: bool, input: &[u8], output: &mut [u8]) -> Report {
         let mut report = Report { answered: 0, taken: 0, stop: 0 };
         while report.taken < input.len() {
             let Some(width) = width(input[report.taken]) else {
@@ -878,7 +951,7 @@ impl Model {
                 report.stop = 4;
                 break;
             }
-            let answer = self.step(decode(&input[report.taken..]));
+            let answer = self.step(decode(&input[report.taken..]), hypervisor);
             output[ANSWER_BYTES * report.answered..][..ANSWER_BYTES].copy_from_slice(&answer_bytes(&answer));
             report.answered += 1;
             report.taken += width;
@@ -888,11 +961,11 @@ impl Model {
 }
 
 /// One run over the caller's words; what happened inside beside the report.
-pub fn run(words: &mut [u64], input: &[u8], output: &mut [u8]) -> (Report, Vec<Event>) {
+pub fn run(words: &mut [u64], hypervisor: bool, input: &[u8], output: &mut [u8]) -> (Report, Vec<Event>) {
     let Some(mut model) = Model::from_words(words) else {
         return (Report { answered: 0, taken: 0, stop: 1 }, Vec::new());
     };
-    let report = model.run_commands(input, output);
+    let report = model.run_commands(hypervisor, input, output);
     words.copy_from_slice(&model.to_words());
     (report, model.events)
 }

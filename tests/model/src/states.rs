@@ -3,7 +3,7 @@ use crate::generate::Scene;
 use crate::model::{in_range, known, page_size, word_allowed, Entry, Model};
 use crate::random::Random;
 use crate::record::{outcomes_at, seen_at, Record, SEEN_MOST};
-use t1mmu::numbers::{cell_at, slot_at, CELLS, PARTITION, REGISTERS, SIDES, SLOTS, SLOT_WORDS, STATE_WORDS, STRANDS};
+use t1mmu::numbers::{cell_at, slot_at, CELLS, MODE, PARTITION, REGISTERS, SIDES, SLOTS, SLOT_WORDS, STATE_WORDS, STRANDS};
 use t1mmu::numbers::{KEPT_LOOKUPS, NEWEST, OLDER, SEEN};
 
 #[derive(Clone, Copy, Debug, PartialEq, Eq)]
@@ -64,7 +64,7 @@ fn a_record(r: &mut Random) -> Record {
 /// A sound state, its sides and records anything from empty to full.
 pub fn sound(r: &mut Random, scene: &Scene) -> Model {
     let mut model = Model::reset();
-    for strand in &mut model.registers {
+    for (strand, mode) in model.registers.iter_mut().zip(scene.modes) {
         for number in (0..REGISTERS as u8).filter(|n| known(*n)) {
             let value = scene.value(r, number);
             let mut words = Model::reset().to_words();
@@ -73,6 +73,7 @@ pub fn sound(r: &mut Random, scene: &Scene) -> Model {
                 strand[number as usize] = value;
             }
         }
+        strand[MODE as usize] = mode;
     }
     for side in 0..SIDES {
         let wanted = r.pick(&[0, 3, 40, SLOTS, SLOTS]);

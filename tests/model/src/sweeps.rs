@@ -1,7 +1,8 @@
 //! Cases taken one after the other instead of at random: every operand byte, every register with values at its bounds, every
-//! attribute of a word in every mode, bypasses at the ends of I/O space, every state that is one bit away from a full one, every pair of
-//! page sizes side by side, every TSB entry that is one bit away from one that fits, histories of lookups until a record has come round.
-use crate::command::{encode, width, Command};
+//! attribute of a word in every mode, every command in every mode, bypasses at the ends of I/O space, every state that is one bit away from
+//! a full one, every pair of page sizes side by side, every TSB entry that is one bit away from one that fits, histories of lookups until a
+//! record has come round.
+use crate::command::{decode, encode, strand_of, width, Command};
 use crate::compare::{Step, Stream};
 use crate::generate::Run;
 use crate::model::{Entry, Model};
@@ -10,15 +11,20 @@ use crate::record::{outcomes_at, seen_at, Record, SEEN_MOST};
 use crate::states::Start;
 use crate::tables::{place_of, tag_for, Miss, Table, TsbEntry};
 use t1mmu::numbers::{tsb_base_of, tsb_bytes, tsb_configuration_of};
-use t1mmu::numbers::{ADDRESS_MASK, FAULT_ADDRESS, FAULT_STATUS, MODE, PRIMARY_CONTEXT, SECONDARY_CONTEXT, TAG_ACCESS, TRANSLATION};
-use t1mmu::numbers::{ANSWER_BYTES, SIDES, SLOTS, STATE_WORDS, STRANDS};
+use t1mmu::numbers::{ADDRESS_MASK, FAULT_ADDRESS, FAULT_STATUS, MODE, PARTITION, PRIMARY_CONTEXT, SECONDARY_CONTEXT, TAG_ACCESS, TRANSLATION};
+use t1mmu::numbers::{ANSWER_BYTES, LOCKED, REAL, SIDES, SLOTS, STATE_WORDS, STRANDS};
 
 const PAGE: u64 = 0x4000_0000;
 
 /// A run with room for all its answers, and for part of another one.
 fn run_of(commands: Vec<Command>) -> Step {
+    run_by(false, commands)
+}
+
+/// Likewise, of a stream that is marked as the hypervisor's or is not.
+fn run_by(hypervisor: bool, commands: Vec<Command>) -> Step {
     let room = ANSWER_BYTES * commands.len() + 7;
-    Step::Run(Run { input: commands.into_iter().flat_map(encode).collect(), room })
+    Step::Run(Run { hypervisor, input: commands.into_iter().flat_map(encode).collect(), room })
 }
 
 fn steps_from_reset(seed: u64, steps: Vec<Step>) -> Stream {
@@ -92,8 +98,8 @@ fn registers() -> Stream {
     from_reset(1, commands)
 }
 
-/// Each command with each operand byte from 0 to 255, the other operands as they stand.
-fn operands() -> Stream {
+/// In one mode and stream each command with each operand byte from 0 to 255, the other operands as they stand.
+fn operands(mode: u64, hypervisor: bool) -> Stream {
     let word = 1 << 63 | 0x440;
     let plain = [
         Command::Write { strand: 1, register: PRIMARY_CONTEXT, value: 5 },
@@ -108,25 +114,22 @@ fn operands() -> Stream {
         Command::Pointers { strand: 1, side: 1 },
         Command::Rate { strand: 1, side: 1 },
     ];
-    let mut input = Vec::new();
-    for mode in 0..3 {
-        for command in plain {
-            let bytes = encode(command);
-            // Operands of one byte stand in front of those of eight.
-            let small = if bytes.len() > 8 { bytes.len() - 8 } else { bytes.len() };
-            for at in 1..small {
-                for byte in 0..=255 {
-                    input.extend(encode(Command::Write { strand: 1, register: MODE, value: mode }));
-                    let mut changed = bytes.clone();
-                    changed[at] = byte;
-                    input.extend(changed);
-                }
+    let mut input = encode(Command::Write { strand: 1, register: MODE, value: mode });
+    for command in plain {
+        let bytes = encode(command);
+        // Operands of one byte stand in front of those of eight.
+        let small = if bytes.len() > 8 { bytes.len() - 8 } else { bytes.len() };
+        for at in 1..small {
+            for byte in 0..=255 {
+                let mut changed = bytes.clone();
+                changed[at] = byte;
+                input.extend(changed);
             }
         }
     }
     // No command has fewer than two bytes.
     let room = ANSWER_BYTES * input.len() / 2;
-    steps_from_reset(2, vec![Step::Run(Run { input, room })])
+    steps_from_reset(2, vec![Step::Run(Run { hypervisor, input, room })])
 }
 
 /// Every command code, alone and with operands, with and without room.
@@ -134,7 +137,7 @@ fn codes() -> Vec<Stream> {
     let run = |code: u8, length: usize, room: usize| {
         let mut input = vec![0; length];
         input[0] = code;
-        Step::Run(Run { input, room })
+        Step::Run(Run { hypervisor: length % 2 == 0, input, room })
     };
     let longest = (0..=255).filter_map(width).max().expect("a known code");
     let rooms = [0, ANSWER_BYTES - 1, ANSWER_BYTES, ANSWER_BYTES + 1, 2 * ANSWER_BYTES];
@@ -142,17 +145,17 @@ fn codes() -> Vec<Stream> {
     (0..=255).map(|code| steps_from_reset(code as u64, steps(code))).collect()
 }
 
-/// All of nfo, ie, e, cp, p, w in one mode, translation and mask, met by every kind, selector and size.
+/// All of nfo, ie, e, cp, p, w in one mode, translation and mask, met by every kind, selector and size; strand 0 inserts them.
 fn attributes(mode: u64, translation: u64, mask: u64) -> Stream {
     let mut commands = Vec::new();
-    for (register, value) in [(MODE, mode), (TRANSLATION, translation), (ADDRESS_MASK, mask), (PRIMARY_CONTEXT, 5), (SECONDARY_CONTEXT, 6)] {
+    for (register, value) in [(TRANSLATION, translation), (ADDRESS_MASK, mask), (PRIMARY_CONTEXT, 5), (SECONDARY_CONTEXT, 6), (MODE, mode)] {
         commands.push(Command::Write { strand: 2, register, value });
     }
     for bits in 0..64u64 {
         let word = 1 << 63 | (bits >> 5) << 62 | (bits >> 2 & 7) << 10 | (bits >> 1 & 1) << 8 | (bits & 1) << 6 | 0x55_5555_2000;
         for (side, context, flags) in [(0, 5, 0), (1, 5, 0), (1, 6, 0), (1, 0, 0), (0, 0, 0), (0, 0, 1), (1, 5, 1)] {
-            commands.push(Command::Write { strand: 2, register: TAG_ACCESS + side, value: PAGE | context });
-            commands.push(Command::Insert { strand: 2, side, flags, word });
+            commands.push(Command::Write { strand: 0, register: TAG_ACCESS + side, value: PAGE | context });
+            commands.push(Command::Insert { strand: 0, side, flags, word });
         }
         for kind in 0..6 {
             for selector in 0..4 {
@@ -375,8 +378,8 @@ fn hit_and_miss() -> impl Iterator<Item = Command> {
     records().flat_map(|of| [lookup(of, 0, false), lookup(of, 1, true)])
 }
 
-/// Accesses that never look up, each on every strand: misaligned, of the nucleus in mode 0, bypasses, out of range, refused.
-fn no_lookups() -> Vec<Command> {
+/// Accesses of one mode that never look up: misaligned, of the nucleus in mode 0, bypasses, out of range, refused.
+fn no_lookups(mode: u64) -> Vec<Command> {
     const IO: u64 = 0x80_0000_0000;
     const OUT: u64 = 0x0000_8000_0000_0000;
     // mode, kind, selector, size, address
@@ -384,24 +387,17 @@ fn no_lookups() -> Vec<Command> {
     all.extend((0..5).flat_map(|kind| [(2, kind, 0, 2, PAGE), (2, kind, 0, 2, IO)]));
     all.extend((0..5).flat_map(|kind| [(0, kind, 0, 2, OUT), (1, kind, 0, 2, OUT + PAGE)]));
     all.extend([(1, 5, 0, 3, PAGE), (1, 1, 3, 3, PAGE), (1, 0, 1, 2, PAGE), (0, 0, 2, 2, PAGE), (1, 1, 0, 4, PAGE), (1, 0, 0, 3, PAGE)]);
-    let mut commands = Vec::new();
-    for strand in 0..STRANDS as u8 {
-        for &(mode, kind, selector, size, address) in &all {
-            commands.push(Command::Write { strand, register: MODE, value: mode });
-            commands.push(Command::Access { strand, kind, selector, size, address });
-            commands.extend(rates());
-        }
-    }
+    let access = |(_, kind, selector, size, address)| Command::Access { strand: 0, kind, selector, size, address };
+    let mut commands: Vec<Command> = all.into_iter().filter(|(of, ..)| *of == mode).map(access).collect();
     commands.push(Command::Access { strand: STRANDS as u8, kind: 1, selector: 0, size: 3, address: PAGE });
-    commands.extend(rates());
     commands
 }
 
-/// Commands that are no access, each on every strand and side, with the rates after each of them.
-fn other_commands() -> Vec<Command> {
-    let each = |(strand, side)| {
+/// Commands that are no access, on strand 0 and both sides.
+fn other_commands() -> impl Iterator<Item = Command> {
+    (0..SIDES as u8).flat_map(|side| {
+        let strand = 0;
         [
-            Command::Write { strand, register: MODE, value: 2 },
             Command::Write { strand, register: TAG_ACCESS + side, value: PAGE },
             Command::Insert { strand, side, flags: 0, word: 1 << 63 },
             Command::DemapPage { strand, side, selector: 0, flags: 0, address: PAGE },
@@ -412,14 +408,32 @@ fn other_commands() -> Vec<Command> {
             Command::Pointers { strand, side },
             Command::Rate { strand, side },
         ]
-    };
-    records().flat_map(each).flat_map(|command| [command].into_iter().chain(rates())).collect()
+    })
 }
 
-/// What is no lookup leaves every record, empty or not.
-fn untouched() -> Vec<Stream> {
-    let quiet = || looking_up().into_iter().chain(no_lookups()).chain(other_commands());
-    vec![from_reset(14, quiet().collect()), from_reset(14, looking_up().into_iter().chain(hit_and_miss()).chain(quiet()).collect())]
+/// The same command on each strand that there is.
+fn on_strands(command: Command) -> impl Iterator<Item = Command> {
+    let bytes = encode(command);
+    (0..STRANDS as u8).map(move |strand| {
+        let mut named = bytes.clone();
+        if strand_of(command).is_some_and(|of| of < STRANDS as u8) {
+            named[1] = strand;
+        }
+        decode(&named)
+    })
+}
+
+/// What is no lookup leaves every record, empty or not: in one mode, permitted or not, all rates after each of it. No command leads back to
+/// mode 2, so that the modes are set in the words.
+fn untouched(mode: u64, hypervisor: bool, empty: bool) -> Stream {
+    let mut model = Model::reset();
+    for command in looking_up().into_iter().chain(hit_and_miss().filter(|_| !empty)) {
+        model.step(command, false);
+    }
+    model.registers.iter_mut().for_each(|strand| strand[MODE as usize] = mode);
+    let quiet = no_lookups(mode).into_iter().chain(other_commands()).flat_map(on_strands);
+    let steps = quiet.map(|command| run_by(hypervisor, [command].into_iter().chain(rates()).collect())).collect();
+    Stream { seed: 14, start: Start::Sound, words: model.to_words(), steps }
 }
 
 /// So does a serve, of an entry that fits, of one that does not, and one that is refused.
@@ -474,12 +488,139 @@ fn damaged() -> impl Iterator<Item = Stream> {
     states.map(|words| from_words(16, Start::BadRecord, words))
 }
 
+/// Each mode, in a stream that is marked as the hypervisor's and in one that is not.
+fn callers() -> impl Iterator<Item = (u64, bool)> {
+    (0..3).flat_map(|mode| [(mode, false), (mode, true)])
+}
+
+/// A strand in one mode between strands in another, pages of its partition on each side, one unlocked, one locked and one real, and a lookup
+/// of each side kept where its mode looks up. It is strand 0 that inserts the pages, while still in mode 2.
+fn between(strand: u8, mode: u64, others: u64) -> Vec<Command> {
+    let write = |strand: u8, register: u8, value: u64| Command::Write { strand, register, value };
+    let mut all = Vec::new();
+    for side in 0..SIDES as u8 {
+        for (flags, page) in [(0, PAGE), (LOCKED, PAGE + 0x2000), (REAL, PAGE)] {
+            all.extend([write(0, TAG_ACCESS + side, page), Command::Insert { strand: 0, side, flags, word: 1 << 63 | 0x440 }]);
+        }
+    }
+    for of in 0..STRANDS as u8 {
+        all.extend([write(of, TRANSLATION, 3), write(of, MODE, if of == strand { mode } else { others })]);
+    }
+    all.extend(records().map(|of| lookup(of, 0, false)));
+    all
+}
+
+/// Every command with every register and with flags, sides and selectors at and past their bounds. Mode 2 is not left: the commands behind
+/// would find another one.
+fn every_command(strand: u8, mode: u64) -> Vec<Command> {
+    let write = |register: u8, value: u64| Command::Write { strand, register, value };
+    let mut all = Vec::new();
+    for register in 0..=255 {
+        let values = [0, 1, 2, 3, 7, 0x101, 8191, 8192, 0x2000, u64::MAX].into_iter();
+        all.extend(values.filter(|value| register != MODE || mode != 2 || *value > 1).map(|value| write(register, value)));
+        all.push(Command::Read { strand, register });
+    }
+    // tag access is in range again, and the partition that of the pages
+    all.extend([write(TAG_ACCESS, PAGE), write(TAG_ACCESS + 1, PAGE), write(PARTITION, 0)]);
+    for side in 0..=SIDES as u8 {
+        let flags = (0..6).chain([0x80, 0xFF]);
+        all.extend(flags.clone().map(|flags| Command::Insert { strand, side, flags, word: 1 << 63 | 0x440 }));
+        for selector in 0..4 {
+            all.extend(flags.clone().map(|flags| Command::DemapPage { strand, side, selector, flags, address: PAGE + 8 }));
+            all.push(Command::DemapContext { strand, side, selector });
+        }
+        all.extend([Command::DemapAll { strand, side }, Command::Pointers { strand, side }, Command::Rate { strand, side }]);
+        all.push(Command::Invalidate { side });
+    }
+    all.extend((0..6).map(|kind| Command::Access { strand, kind, selector: 0, size: 2, address: PAGE + 8 }));
+    all
+}
+
+/// Who may command, document 02's U6: the whole table of modes, streams and commands, with every strand between strands in the other modes.
+/// Each command is a run of its own, so that the state is compared after it.
+fn permissions() -> impl Iterator<Item = Stream> {
+    let strands = |mode: u64, hypervisor: bool| (0..STRANDS as u8).map(move |strand| (mode, hypervisor, strand));
+    let each = callers().flat_map(move |(mode, hypervisor)| strands(mode, hypervisor));
+    let each = each.flat_map(|(mode, hypervisor, strand)| [1, 2].map(|n| (mode, hypervisor, strand, (mode + n) % 3)));
+    each.map(|(mode, hypervisor, strand, others)| {
+        let steps = every_command(strand, mode).into_iter().map(|command| run_by(hypervisor, vec![command]));
+        steps_from_reset(17, [run_of(between(strand, mode, others))].into_iter().chain(steps).collect())
+    })
+}
+
+/// 16 in its place between the others: strand 1 in one mode and stream, its tag access in range or not, side 1 full of locked entries or
+/// empty, lookups kept or not; then commands that each other question refuses or not, each a run of its own.
+fn orders() -> impl Iterator<Item = Stream> {
+    let states = (0..8).map(|n| [n & 1 == 1, n & 2 == 2, n & 4 == 4]);
+    let each = callers().flat_map(move |caller| states.clone().map(move |state| (caller, state)));
+    each.map(|((mode, hypervisor), [out, full, kept])| {
+        let write = |strand: u8, register: u8, value: u64| Command::Write { strand, register, value };
+        let sides = || 0..SIDES as u8;
+        let mut before = Vec::new();
+        if full {
+            // of a context that no selector has
+            let locked = |n: u64| [write(0, TAG_ACCESS + 1, n << 28 | 9), Command::Insert { strand: 0, side: 1, flags: LOCKED, word: 1 << 63 }];
+            before.extend((0..SLOTS as u64).flat_map(locked));
+        }
+        let tags = sides().map(|side| write(1, TAG_ACCESS + side, if out { OUT_OF_RANGE } else { PAGE }));
+        let down = [write(1, TRANSLATION, 3), write(1, MODE, mode)];
+        // a lookup that misses leaves a page in range: behind it mode 0 has none out of range
+        match kept {
+            true => before.extend(down.into_iter().chain(sides().map(|side| lookup((1, side), 0, true))).chain(tags)),
+            false => before.extend(tags.chain(down)),
+        }
+        let steps = ordered().into_iter().map(|command| run_by(hypervisor, vec![command]));
+        steps_from_reset(18, [run_of(before)].into_iter().chain(steps).collect())
+    })
+}
+
+const OUT_OF_RANGE: u64 = 1 << 47;
+
+/// Commands with each operand good and bad, in all combinations. What a good one does is no matter to those behind it, but for
+/// invalidations, which come last.
+fn ordered() -> Vec<Command> {
+    let mut all = Vec::new();
+    for strand in [1, STRANDS as u8] {
+        for (register, value) in [(1, 5), (1, 8192), (4, 3), (4, 4), (0, 0), (0, 8), (3, 3), (6, 0), (22, 0), (99, 0), (255, u64::MAX)] {
+            all.push(Command::Write { strand, register, value });
+        }
+        for side in 0..=SIDES as u8 {
+            for selector in 0..4 {
+                all.push(Command::DemapContext { strand, side, selector });
+                for flags in 0..3 {
+                    all.extend([PAGE, OUT_OF_RANGE].map(|address| Command::DemapPage { strand, side, selector, flags, address }));
+                }
+            }
+            for flags in 0..6 {
+                // v 0, a size that is not listed, and a good one
+                all.extend([0, 1 << 63 | 2, 1 << 63].map(|word| Command::Insert { strand, side, flags, word }));
+            }
+            all.extend([Command::Pointers { strand, side }, Command::Rate { strand, side }, Command::DemapAll { strand, side }]);
+        }
+        all.extend((0..6).map(|kind| Command::Access { strand, kind, selector: 2, size: 2, address: OUT_OF_RANGE }));
+        all.extend([0, 6, 22, 26].map(|register| Command::Read { strand, register }));
+    }
+    all.extend((0..=SIDES as u8).map(|side| Command::Invalidate { side }));
+    all
+}
+
+/// A strand goes down from mode 2 to 1 and to 0 and never up, whoever runs the stream.
+fn lowered() -> Stream {
+    let write = |strand: u8, value: u64| [Command::Write { strand, register: MODE, value }, Command::Read { strand, register: MODE }];
+    let down = [2, 1, 2, 0, 1, 2].map(|value| (0, value)).into_iter().chain([0, 1, 2].map(|value| (1, value)));
+    let steps = down.flat_map(|(strand, value)| [false, true].map(|hypervisor| run_by(hypervisor, write(strand, value).to_vec())));
+    steps_from_reset(19, steps.collect())
+}
+
 pub fn all() -> impl Iterator<Item = Stream> {
     let each = || (0..3).flat_map(|mode| (0..4).flat_map(move |translation| (0..2).map(move |mask| (mode, translation, mask))));
     let modes = each().flat_map(|(mode, translation, mask)| [attributes(mode, translation, mask), bypasses(mode, translation, mask)]);
     let lengths = (0..=2 * STATE_WORDS + 120).filter(|n| *n != STATE_WORDS).map(|n| from_words(6, Start::WrongLength, vec![0; n]));
     let misses = tsb_bits().chain(tsb_lengths()).chain([tsb_operands()]);
-    let lookups = histories().chain(further()).chain([rate_refusals(), served()]).chain(untouched()).chain(damaged());
+    let untouched = callers().flat_map(|(mode, hypervisor)| [untouched(mode, hypervisor, true), untouched(mode, hypervisor, false)]);
+    let lookups = histories().chain(further()).chain([rate_refusals(), served()]).chain(untouched).chain(damaged());
     let states = neighbours().into_iter().chain(flips()).chain(lengths);
-    [registers(), operands()].into_iter().chain(codes()).chain(modes).chain(states).chain(misses).chain(lookups)
+    let operands = callers().map(|(mode, hypervisor)| operands(mode, hypervisor));
+    let permissions = permissions().chain(orders()).chain([lowered()]);
+    [registers()].into_iter().chain(operands).chain(codes()).chain(modes).chain(states).chain(misses).chain(lookups).chain(permissions)
 }

@@ -12,6 +12,8 @@ const ROOM: usize = 49152;
 
 pub struct Vector {
     pub name: String,
+    /// the stream is marked as the hypervisor's
+    pub hypervisor: bool,
     pub input: Vec<u8>,
     pub output: String,
 }
@@ -24,17 +26,23 @@ pub fn hex(bytes: &[u8]) -> String {
     bytes.iter().map(|b| format!("{b:02x}")).collect()
 }
 
-/// A line `# name`, a line `in` with the input in hexadecimal, the answers, and the line `end ..`.
+/// A line with a run's input in hexadecimal: `in`, or `hypervisor` where the stream is marked.
+pub fn run_line(line: &str) -> Option<(bool, Vec<u8>)> {
+    let (word, hex) = line.split_once(' ').unwrap_or((line, ""));
+    matches!(word, "in" | "hypervisor").then(|| (word == "hypervisor", bytes(hex)))
+}
+
+/// A line `# name`, the line of the run, the answers, and the line `end ..`.
 pub fn read(text: &str) -> Vec<Vector> {
     let mut all: Vec<Vector> = Vec::new();
     for line in text.lines().filter(|l| !l.is_empty() && !is_record(l)) {
         if let Some(name) = line.strip_prefix("# ") {
-            all.push(Vector { name: name.to_string(), input: Vec::new(), output: String::new() });
+            all.push(Vector { name: name.to_string(), hypervisor: false, input: Vec::new(), output: String::new() });
             continue;
         }
         let last = all.last_mut().expect("a name before the first line");
-        match line.strip_prefix("in") {
-            Some(hex) => last.input = bytes(hex.trim()),
+        match run_line(line) {
+            Some(run) => (last.hypervisor, last.input) = run,
             None => last.output += &format!("{line}\n"),
         }
     }
@@ -49,18 +57,18 @@ pub fn printed(report: Report, output: &[u8]) -> String {
     text + &format!("end {} {} {}\n", report.answered, report.taken, report.stop)
 }
 
-/// What the stream program prints, by the model.
-pub fn by_model(input: &[u8]) -> String {
+/// What the stream program prints, by the model; the program's own streams are not marked.
+pub fn by_model(hypervisor: bool, input: &[u8]) -> String {
     let mut output = vec![0; ROOM];
-    let report = Model::reset().run_commands(&input[..input.len().min(INPUT_MOST)], &mut output);
+    let report = Model::reset().run_commands(hypervisor, &input[..input.len().min(INPUT_MOST)], &mut output);
     printed(report, &output)
 }
 
-pub fn by_library(input: &[u8]) -> String {
+pub fn by_library(hypervisor: bool, input: &[u8]) -> String {
     let mut state = vec![0; STATE_WORDS];
     let mut output = vec![0; ROOM];
     library::reset(&mut state);
-    let report = library::run(&mut state, &input[..input.len().min(INPUT_MOST)], &mut output);
+    let report = library::run(&mut state, hypervisor, &input[..input.len().min(INPUT_MOST)], &mut output);
     printed(report, &output)
 }
 
@@ -72,7 +80,7 @@ pub fn by_ledger(vector: &Vector) -> String {
         if line.starts_with("end") {
             return text + line + "\n";
         }
-        let given = ledger.answer(decode(&vector.input[at..]), &bytes(line));
+        let given = ledger.answer(decode(&vector.input[at..]), vector.hypervisor, &bytes(line));
         at += width(vector.input[at]).unwrap_or(1);
         text += &given.map_or("none".to_string(), |g| hex(&g));
         text += "\n";

@@ -16,6 +16,7 @@ use Rattle.machine.proofs.Printed.{printed-run}
 use Rattle.machine.proofs.Searches.{searches}
 use Rattle.machine.proofs.Lookups.{lookups}
 use Rattle.machine.proofs.Extent.{extent}
+use Rattle.machine.proofs.Guests.{guests-confined}
 use Rattle.machine.proofs.answer_width.Statement.{statement}
 use Rattle.machine.proofs.answer_width.Tie as tie
 
@@ -49,7 +50,7 @@ returns c = (
                     framed,
                     (
                       searches,
-                      (lookups, (extent, (decodes, (starred, printed-run)))),
+                      (lookups, (extent, (guests-confined, (decodes, (starred, printed-run))))),
                     ),
                   ),
                 ),

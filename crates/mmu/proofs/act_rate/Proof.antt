@@ -20,7 +20,7 @@ unfolding asked allOf
 miss-rate-requires c κs =
     let s = c .before in
     let u = stateIn (s .args .state .now) in
-    let q = passed-asked u (command.Rate (s .args .strand) (s .args .side)) (s .pre .passed) in
+    let q = passed-asked (s .pre .passed .0) u (command.Rate (s .args .strand) (s .args .side)) (s .pre .passed .1) in
     let kept : hasLookups (u .records) (recordOf (s .args .strand) (s .args .side)) ≡ true = search conj in
     (s .pre .lent, s .pre .fit .0, s .pre .fit .1, kept)
 

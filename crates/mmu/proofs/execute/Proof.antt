@@ -21,7 +21,7 @@ act-command-requires c κs =
     let q = told .before .before in
     let s = q .before .before .before in
     let e = sym (q .question .ensures) ∙ told .enum-told .given .1 in
-    record { lent = search needs; sound = s .pre .1; passed = e; fit = passed-fit _ _ e }
+    record { lent = search needs; sound = s .pre .1; passed = (_, e); fit = passed-fit _ _ _ e }
 
 returns-2 : tie.Need-returns-2
 unfolding step

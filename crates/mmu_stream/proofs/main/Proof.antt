@@ -7,7 +7,7 @@ use Rattle.mmu_stream.proofs.main.Statement.{statement}
 print-answers-requires : tie.Need-print-answers-requires
 print-answers-requires c κs =
     let r = c .before .before .before .run in
-    answers-fit _ _ _ _ _ (r .result) (r .ensures) (r .kept .1 .1 .0)
+    answers-fit _ _ _ _ _ _ (r .result) (r .ensures) (r .kept .1 .1 .0)
 
 pub main-spec : {M : Type 1} → statement M
 main-spec =

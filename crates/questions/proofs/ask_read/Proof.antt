@@ -11,7 +11,7 @@ unfolding asked
 ask-read-spec =
     tie.close
     (tie.spec
-    (λ c. no (all _ _) (le-ltb _ 4 (c .if1 .taken)))
+    (λ c hv. no (all hv _ _) (le-ltb _ 4 (c .if1 .taken)))
     (λ c κs. search needs)
-    (λ c. no (yes (all _ _) (lt-ltb _ 4 (c .before .before .if1 .left))) (failed (c .before .is-known .ensures) (c .if2 .taken)))
-    (λ c. none (yes (yes (all _ _) (lt-ltb _ 4 (c .before .before .if1 .left))) (held (c .before .is-known .ensures) (c .if2 .left)))))
+    (λ c hv. no (yes (all hv _ _) (lt-ltb _ 4 (c .before .before .if1 .left))) (failed (c .before .is-known .ensures) (c .if2 .taken)))
+    (λ c hv. none (yes (yes (all hv _ _) (lt-ltb _ 4 (c .before .before .if1 .left))) (held (c .before .is-known .ensures) (c .if2 .left)))))

@@ -4,7 +4,7 @@
 -- Assumes nothing.
 use Prim.Native.Nat.{ℕ, _+_, _*_, _-_, _^_, _≤_, _<_}
 use mathlib.Core.Path.{_≡_, refl, sym, ap, _∙_}
-use mathlib.Core.Bool.{true}
+use mathlib.Core.Bool.{Bool, true}
 use mathlib.Core.List.{List}
 use native.Mathlib.Omega.{arith}
 use borrow.Author.Needs.{needs}
@@ -26,46 +26,46 @@ use Rattle.wire.specs.Wire.{stopOf, fullStopOf}
 use Rattle.stream.proofs.run.Statement.{statement}
 use Rattle.stream.proofs.run.Tie as tie
 
-record Going (state₀ input output₀ words output : List ℕ) (at answered : ℕ) : Type 0 where
+record Going (hv : Bool) (state₀ input output₀ words output : List ℕ) (at answered : ℕ) : Type 0 where
   inside : at ≤ length input
   size : length words ≡ stateLength
   sound : state.sound counts (stateIn words) ≡ true
   kept : length words ≡ length state₀
   room : length output ≡ length output₀
   fits : answered * 24 ≤ length output
-  rest : resume (stateIn words) input output answered at ≡ runOf counts state₀ input output₀
+  rest : resume hv (stateIn words) input output answered at ≡ runOf hv counts state₀ input output₀
 
 abbrev Inv-loop : tie.InvT-loop
-Inv-loop state₀ input output₀ hints₀ at₀ answered₀ words output hints at answered = Going state₀ input output₀ words output at answered
+Inv-loop state₀ input output₀ hv hints₀ at₀ answered₀ words output hints at answered = Going hv state₀ input output₀ words output at answered
 
 abbrev μ-loop : tie.MeasureT-loop
-μ-loop state₀ input output₀ hints₀ at₀ answered₀ words output hints at answered = length input - at
+μ-loop state₀ input output₀ hv hints₀ at₀ answered₀ words output hints at answered = length input - at
 
 -- a run that ends here leaves the words as they are
-over : {state₀ input output₀ words output : List ℕ} {at answered : ℕ} (k : ℕ) → Going state₀ input output₀ words output at answered
-    → Over (stateIn words) input output answered at k
-    → _≡_ {A = Outcome} (record { words = words; output = output; answered = answered; taken = at; stop = k }) (runOf counts state₀ input output₀)
+over : {hv : Bool} {state₀ input output₀ words output : List ℕ} {at answered : ℕ} (k : ℕ) → Going hv state₀ input output₀ words output at answered
+    → Over hv (stateIn words) input output answered at k
+    → _≡_ {A = Outcome} (record { words = words; output = output; answered = answered; taken = at; stop = k }) (runOf hv counts state₀ input output₀)
 over {words} k g o = (rw (encode-state counts words (g .size)) at (sym o)) ∙ g .rest
 
 -- where there is no room a run ends, whatever stands there
-full : (u : State) (input output : List ℕ) (answered at : ℕ) → at < length input → length output - answered * 24 < 24 → (d : Decoded) →
-    decodeAt input at ≡ d → Over u input output answered at (fullStopOf d)
-full u input output answered at h r (Stop k) e = resume-stop u input output answered at h e
-full u input output answered at h r (Known c width) e = resume-full u input output answered at h e r
+full : (hv : Bool) (u : State) (input output : List ℕ) (answered at : ℕ) → at < length input → length output - answered * 24 < 24 → (d : Decoded) →
+    decodeAt input at ≡ d → Over hv u input output answered at (fullStopOf d)
+full hv u input output answered at h r (Stop k) e = resume-stop hv u input output answered at h e
+full hv u input output answered at h r (Known c width) e = resume-full hv u input output answered at h e r
 
 -- a command answered leaves the outcome as it is
-module _ {state₀ input output₀ words output : List ℕ} {at answered : ℕ} (g : Going state₀ input output₀ words output at answered)
-    (c : Command) (words′ : List ℕ) (e : words′ ≡ encode (step (stateIn words) c .state)) where
-  after : stateIn words′ ≡ step (stateIn words) c .state
-  after = rw e (sound-encode counts _ (step-sound counts (stateIn words) c (g .sound)))
+module _ {hv : Bool} {state₀ input output₀ words output : List ℕ} {at answered : ℕ} (g : Going hv state₀ input output₀ words output at answered)
+    (c : Command) (words′ : List ℕ) (e : words′ ≡ encode (step hv (stateIn words) c .state)) where
+  after : stateIn words′ ≡ step hv (stateIn words) c .state
+  after = rw e (sound-encode counts _ (step-sound hv counts (stateIn words) c (g .sound)))
 
   turn-sound : state.sound counts (stateIn words′) ≡ true
-  turn-sound = rw after (step-sound counts (stateIn words) c (g .sound))
+  turn-sound = rw after (step-sound hv counts (stateIn words) c (g .sound))
 
   turn : (width : ℕ) (a : Answer) (output′ : List ℕ) → at < length input → decodeAt input at ≡ Known c width → answered * 24 + 24 ≤ length output
-      → a ≡ step (stateIn words) c .answer → output′ ≡ sets output (answered * 24) (answerBytes a)
-      → resume (stateIn words′) input output′ (answered + 1) (at + width) ≡ runOf counts state₀ input output₀
-  turn width a output′ h f r q o = rw (after, o, q) (sym (resume-turn _ _ _ _ _ h f r) ∙ g .rest)
+      → a ≡ step hv (stateIn words) c .answer → output′ ≡ sets output (answered * 24) (answerBytes a)
+      → resume hv (stateIn words′) input output′ (answered + 1) (at + width) ≡ runOf hv counts state₀ input output₀
+  turn width a output′ h f r q o = rw (after, o, q) (sym (resume-turn _ _ _ _ _ _ h f r) ∙ g .rest)
 
 -- ---- the command at the loop's place
 
@@ -96,7 +96,7 @@ module _ (c : tie.After-decoded Inv-loop μ-loop) where
 -- ---- an unsound state
 
 returns : tie.Need-returns Inv-loop μ-loop
-returns c = sym (run-unsound counts _ _ _ (sym (c .before .state-sound .ensures) ∙ not-true _ (c .if1 .taken)))
+returns c = sym (run-unsound _ counts _ _ _ (sym (c .before .state-sound .ensures) ∙ not-true _ (c .if1 .taken)))
 
 -- ---- the loop
 
@@ -111,7 +111,7 @@ loop-holds c =
       kept = refl;
       room = refl;
       fits = search needs;
-      rest = resume-start counts _ _ _ h;
+      rest = resume-start _ counts _ _ _ h;
     }
 
 -- no room: numbers 2 and 3, and 4
@@ -119,7 +119,7 @@ loop-holds c =
 returns-2 : tie.Need-returns-2 Inv-loop μ-loop
 returns-2 c =
     let l = c .before .before .before .loop in
-    rw (c .stop-without-room .ensures) (over _ (l .inv) (full _ _ _ _ _ (omega arith) (omega arith) _ refl))
+    rw (c .stop-without-room .ensures) (over _ (l .inv) (full _ _ _ _ _ _ (omega arith) (omega arith) _ refl))
 
 -- numbers 2 and 3
 
@@ -135,7 +135,7 @@ returns-3 c =
     let d = c .before .before .before in
     let l = d .before .before .before .loop in
     let k : c .stop-number .result ≡ told .0 .0 = c .stop-number .ensures ∙ ap stopOf (told .1) in
-    rw k (over _ (l .inv) (resume-stop _ _ _ _ _ (omega arith) (sym (d .command-at .ensures) ∙ told .1)))
+    rw k (over _ (l .inv) (resume-stop _ _ _ _ _ _ (omega arith) (sym (d .command-at .ensures) ∙ told .1)))
 
 -- a command answered
 
@@ -177,7 +177,7 @@ loop-again c =
 -- the end of the input
 
 returns-4 : tie.Need-returns-4 Inv-loop μ-loop
-returns-4 c = over 0 (c .before .loop .inv) (resume-end _ _ _ _ _ (omega arith))
+returns-4 c = over 0 (c .before .loop .inv) (resume-end _ _ _ _ _ _ (omega arith))
 
 pub run-spec : {M : Type 1} → statement M
 run-spec =
