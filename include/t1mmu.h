@@ -137,10 +137,11 @@ enum t1mmu_register {
  *   - T1MMU_HYPERPRIVILEGED: all that names a strand.
  * An invalidation names none. It is taken in the hypervisor's streams alone, whatever the modes are; these permit nothing else besides.
  *
- * What a hypervisor may rely on, over any commands that t1mmu_run takes, where every strand that they name is in mode 0 or 1: no partition
- * and no mode changes, and no locked entry is lost whose partition is that of none of these strands. What it has to see to itself:
- *   - Any bytes may name any strand, and at reset all are in mode 2. Before it runs a guest's bytes it sets mode, partition and translation of
- *     every strand that they might name.
+ * What a hypervisor may rely on, over any commands that t1mmu_run takes, where every strand that they name is in mode 0 or 1: no strand's
+ * partition, mode or translation changes, and every locked entry stays that belongs to a partition in which none of these strands is.
+ * (specs: GuestsConfined) What it has to see to itself:
+ *   - Any bytes may name any strand, another guest's too, and act as that strand; at reset all are in mode 2. Before it runs a guest's bytes
+ *     it sets mode, partition and translation of every strand that they might name.
  *   - Mode 1 may insert any physical address: memory is the hypervisor's to guard.
  *   - No command leaves mode 0 or 1 again, by whichever call it comes. The hypervisor raises a strand's mode itself, between calls, in the
  *     state's word at T1MMU_CELL_AT(strand, T1MMU_MODE), where 0, 1 and 2 are sound.

@@ -147,9 +147,10 @@ impl Unit {
     /// Soundness is asked once a run, at the cost of some two dozen hits: give a run many commands where you can.
     ///
     /// The bytes may be a guest's. The mode of the strand that a command names says what it may do ([`numbers::USER`] and the two behind it),
-    /// and an invalidation is refused. Where every strand named is in mode 0 or 1, no partition and no mode changes, and no locked entry is
-    /// lost whose partition is that of none of these strands. At reset all are in mode 2, so set them first. No command leaves mode 0 or 1
-    /// again: the host does, in the words of the state ([`Unit::words`], [`numbers::cell_at`], [`Unit::from_words`]).
+    /// and an invalidation is refused. Where every strand named is in mode 0 or 1, no partition, mode or translation changes, and every
+    /// locked entry stays that belongs to a partition in which none of these strands is. At reset all are in mode 2, so set them first. No
+    /// command leaves mode 0 or 1 again: the host does, in the words of the state ([`Unit::words`], [`numbers::cell_at`],
+    /// [`Unit::from_words`]).
     pub fn run(&mut self, input: &[u8], output: &mut [u8]) -> Report {
         self.run_by(sys::t1mmu_run, input, output)
     }

@@ -10,7 +10,8 @@ use Rattle.machine.specs.Tsb.{tsbOffset, tsbPointer}
 use Rattle.machine.specs.Examples.{Starred}
 
 pub starred : Starred
-unfolding inRange pageShift frame physicalBy known writable allowed resetStrands guestWritable permitted asked ask verdict prepare faultType judge tsbOffset tsbPointer
+unfolding inRange pageShift frame physicalBy known writable allowed resetStrands guestWritable permitted asked ask verdict
+    prepare faultType judge tsbOffset tsbPointer
 starred = record {
   range = (refl, refl, refl, refl);
   accepted = λ hv u h. rw h;

@@ -3,25 +3,24 @@
 -- Assumes nothing.
 use Prim.Native.Nat.{ℕ, suc, _≤_, _<_}
 use mathlib.Core.Path.{_≡_, refl, sym, ap, _∙_}
-use mathlib.Core.Bool.{Bool, true, false, not, cond, _&&_}
+use mathlib.Core.Bool.{Bool, true, false, cond, _&&_}
 use mathlib.Core.List.{List, [], _∷_, _++_}
-use mathlib.Core.Logic.{_⊎_, ⊎-elim}
+use mathlib.Core.Logic.{⊎-elim}
 use native.Mathlib.Omega.{arith}
 use lib.Dec.{eqb, ltb}
 use borrow.Author.Tests.{eqb-true, eqb-false, eq-eqb, ne-eqb, leb-true, ltb-true}
 use Rattle.laws.specs.Tests.{tick, count, allOf}
-use Rattle.laws.specs.Passing.{howMany}
 use Rattle.laws.proofs.Bools.{by-test, clash, and-left, and-right}
 use Rattle.laws.proofs.Finds.{stands-count, count-index, how-many}
 use Rattle.machine.specs.Registers.{partition}
-use Rattle.machine.specs.State.{Counts, counts, slotCount, State, sideOf}
+use Rattle.machine.specs.State.{Counts, counts, slotCount, State}
 use Rattle.machine.specs.Permission.{permitted}
 use Rattle.machine.specs.Questions.{asked, verdict}
 use Rattle.machine.specs.Step.{step}
 use Rattle.machine.specs.Ledger.{Entry, Ledger, Name, unlocked, guestWrites, firstNo, modeAllows, questions, does, enters}
 use Rattle.machine.specs.Places.{slots, Reference, referenceWords}
 use Rattle.machine.specs.Demand3.{Live}
-use Rattle.machine.specs.Frame.{LivesIn, Lives, Removes, invalidated, overlapped, demappedPage, demappedContext, demappedAll, displaced}
+use Rattle.machine.specs.Frame.{LivesIn, Removes, invalidated, overlapped, demappedPage, demappedContext, demappedAll, displaced}
 use Rattle.machine.specs.Good.{ReferenceGood, GoodWords}
 use Rattle.machine.specs.Reference.{displacedName, referenceNext, referenceAfter}
 use Rattle.machine.specs.Extent.{disturbs}
@@ -32,13 +31,13 @@ use Rattle.machine.specs.declared.Command.the-variants as command
 use Rattle.machine.specs.declared.Verdict.the-variants.{Passed}
 use Rattle.machine.proofs.State.{passed-asked}
 use Rattle.machine.proofs.Alike.{hit, SideAlike, ReferenceAlike}
-use Rattle.machine.proofs.Sides.{sameEntry, entry-self, entry-same}
+use Rattle.machine.proofs.Sides.{eqb-self, sameEntry, entry-self, entry-same}
 use Rattle.machine.proofs.Commands.{alike-side}
 use Rattle.machine.proofs.Demand3.{first-fine, alike-sound, step-says}
 use Rattle.machine.proofs.Good.{stateFor, good-alike}
 use Rattle.machine.proofs.Frame.{count-lives, lives-count, lives-same, framed}
 use Rattle.machine.proofs.Extent.{does-lasts}
-use Rattle.machine.proofs.Reference.{own-next, told, both-sides}
+use Rattle.machine.proofs.Reference.{own-next, after-good, both-sides}
 
 ruleset conj = (and-left, and-right, ltb-true)
 
@@ -50,10 +49,6 @@ guest-only l strand guest h t = by-test (eqb (l .registers strand 3) 0)
     (λ e.
     let one : l .registers strand 3 ≡ 1 = omega (arith, eqb-false (l .registers strand 3) 0 e) in
     rw (e, eq-eqb (l .registers strand 3) 1 one) at t)
-
--- a strand among those that a command names
-names-own : (strand : ℕ) → eqb strand strand ≡ true
-names-own strand = eq-eqb strand strand refl
 
 other-side : (side : ℕ) → eqb side (suc side) ≡ false
 other-side side = ne-eqb side (suc side) (λ e. omega arith)
@@ -75,8 +70,9 @@ module _ (n : ℕ → ℕ) (l : Ledger) (s r : ℕ) (small : r ≤ 5) (own : gue
       let b = first-fine 9 _ _ (λ z. omega arith) (a .1) in
       let c = first-fine 10 _ _ (λ z. omega arith) (b .1) in
       let m = first-fine 16 _ _ (λ z. omega arith) (c .1) in
-      write-stays strand number value (guest-only l strand _ (g strand (omega (arith, leb-true strand 3 (a .0))) (names-own strand)) (m .0))
-  does-stays (command.Insert strand side flags word) d e g = does-lasts s (suc side) l n (command.Insert strand side flags word) d (other-side side) .registers r small
+      write-stays strand number value (guest-only l strand _ (g strand (omega (arith, leb-true strand 3 (a .0))) (eqb-self strand)) (m .0))
+  does-stays (command.Insert strand side flags word) d e g =
+      does-lasts s (suc side) l n (command.Insert strand side flags word) d (other-side side) .registers r small
   does-stays (command.DemapPage strand side selector flags address) d e g =
       does-lasts s (suc side) l n (command.DemapPage strand side selector flags address) d (other-side side) .registers r small
   does-stays (command.DemapContext strand side selector) d e g =
@@ -117,9 +113,9 @@ module _ (u : State) (side : ℕ) (e : Entry) (locked : e .locked ≡ true) wher
   spared : {c : Command} → Removes u side e c → verdict false u c ≡ Passed → Strangers c → ⊥
   unfolding asked permitted allOf names
   spared invalidated v far = let q = passed-asked false u _ v in clash (and-right (ltb side 2) false q) refl
-  spared (overlapped {strand} p t) v far = let q = passed-asked false u _ v in far strand (search conj) (names-own strand) p
-  spared (demappedPage {strand} p t) v far = let q = passed-asked false u _ v in far strand (search conj) (names-own strand) p
-  spared (demappedContext {strand} p t) v far = let q = passed-asked false u _ v in far strand (search conj) (names-own strand) p
+  spared (overlapped {strand} p t) v far = let q = passed-asked false u _ v in far strand (search conj) (eqb-self strand) p
+  spared (demappedPage {strand} p t) v far = let q = passed-asked false u _ v in far strand (search conj) (eqb-self strand) p
+  spared (demappedContext {strand} p t) v far = let q = passed-asked false u _ v in far strand (search conj) (eqb-self strand) p
   spared (demappedAll p t) v far = lock-held t
   spared (displaced full apart t) v far = lock-held t
 
@@ -156,7 +152,8 @@ module _ {n : Counts} {u : State} {k : Reference} (h : ReferenceAlike n u k) (c 
 confined : (n : Counts) (u : State) (k : Reference) (cs : List Command) → ReferenceAlike n u k → Guests (k .ledger) cs
     → Confined (k .ledger) cs (referenceAfter false (slotCount n) k cs .ledger)
 unfolding referenceAfter
-confined n u k [] h g = record { partitions = λ strand. refl; modes = λ strand. refl; locked = λ side e b l t far. l }
+confined n u k [] h g =
+    record { partitions = λ strand. refl; modes = λ strand. refl; translations = λ strand. refl; locked = λ side e b l t far. l }
 confined n u k (c ∷ cs) h g =
     let partitions = stays h c cs g 0 (omega arith) refl in
     let modes = stays h c cs g 3 (omega arith) refl in
@@ -164,22 +161,19 @@ confined n u k (c ∷ cs) h g =
     record {
       partitions = λ strand. r .partitions strand ∙ partitions strand;
       modes = λ strand. r .modes strand ∙ modes strand;
+      translations = λ strand. r .translations strand ∙ stays h c cs g 4 (omega arith) refl strand;
       locked = λ side e b l t far.
           r .locked side e b (next-live h c cs side e b l t far) t (λ strand x p. far strand (named-later c cs strand x) (sym (partitions strand) ∙ p));
     }
 
 -- ---- a list of runs
-after-append : (n : ℕ → ℕ) (k : Reference) (cs ds : List Command) → referenceAfter false n (referenceAfter false n k cs) ds ≡ referenceAfter false n k (cs ++ ds)
+after-append : (n : ℕ → ℕ) (k : Reference) (cs ds : List Command)
+    → referenceAfter false n (referenceAfter false n k cs) ds ≡ referenceAfter false n k (cs ++ ds)
 unfolding referenceAfter
 after-append n k [] ds = refl
 after-append n k (c ∷ cs) ds = after-append n (referenceNext false n k c) cs ds
 
 module _ (n : Counts) where
-  after-good : (k : Reference) (cs : List Command) → ReferenceGood (slotCount n) k → ReferenceGood (slotCount n) (referenceAfter false (slotCount n) k cs)
-  unfolding referenceAfter
-  after-good k [] g = g
-  after-good k (c ∷ cs) g = after-good _ cs (told n .kept false k c g)
-
   unsound-stays : {words last : List ℕ} {cs : List Command} → Unmarked (slotCount n) words cs last → (GoodWords (slotCount n) words → ⊥) → last ≡ words
   unsound-stays none bad = refl
   unsound-stays (run r x rest) bad =
@@ -190,8 +184,8 @@ module _ (n : Counts) where
       → words ≡ referenceWords k → last ≡ referenceWords (referenceAfter false (slotCount n) k cs)
   unfolding referenceAfter
   words-after none k g e = e
-  words-after (run {cs} {t} r x rest) k g e =
-      rw (← (after-append (slotCount n) k (t .commands) cs)) (words-after rest _ (after-good k (t .commands) g) (r .sound k g e t x .words))
+  words-after (run {cs} {input} {output} {t} r x rest) k g e =
+      rw (← (after-append (slotCount n) k (t .commands) cs)) (words-after rest _ (after-good n k g false input output t x) (r .sound k g e t x .words))
 
   pub guests-confined : GuestsConfined (slotCount n)
   guests-confined = record {

@@ -28,7 +28,8 @@ use Rattle.machine.specs.Tsb.{tsbOffset, tsbPointer, pointer}
 use Rattle.machine.specs.Stream.{answerBytes}
 use Rattle.machine.specs.Ledger.{Ledger, start, writes, pageBytes, codeListed, addressGood, wordGood}
 use Rattle.machine.specs.Ledger.{registerKnown, registerWritable, valueGood, contextPicked, tagOf, line}
-use Rattle.machine.specs.Ledger.{newEntry, firstNo, selectorGood, modeAllows, guestWrites, insertionQuestions, questions, pointerOf, pointers, recent, thousandths}
+use Rattle.machine.specs.Ledger.{newEntry, firstNo, selectorGood, modeAllows, guestWrites, insertionQuestions, questions}
+use Rattle.machine.specs.Ledger.{pointerOf, pointers, recent, thousandths}
 use Rattle.machine.specs.Places.{row, outcomesWord}
 use Rattle.machine.specs.Frame.{entryIn}
 use Rattle.machine.specs.Views.{View, view}

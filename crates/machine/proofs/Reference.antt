@@ -72,7 +72,8 @@ own-name n l side e s b y = name-read n l side e (λ z.
     name-is _ x name ∙ ap nameOf (sym way))
 
 module _ {n : Counts} {u : State} {k : Reference} (h : ReferenceAlike n u k) where
-  own-entered : (hv : Bool) (c : Command) → enters hv (slotCount n) (k .ledger) c (nameIn (unitBytes hv u c)) ≡ enters hv (slotCount n) (k .ledger) c (displacedName k c)
+  own-entered : (hv : Bool) (c : Command)
+      → enters hv (slotCount n) (k .ledger) c (nameIn (unitBytes hv u c)) ≡ enters hv (slotCount n) (k .ledger) c (displacedName k c)
   unfolding enters does
   own-entered hv (command.Write strand number value) = refl
   own-entered hv (command.Insert strand side flags word) = by-test (eqb (firstNo (questions hv (k .ledger) (command.Insert strand side flags word))) 0)
@@ -161,7 +162,7 @@ module _ (n : Counts) (k : Reference) (g : ReferenceGood (slotCount n) k) where
     after-alike : ReferenceAlike n (after hv u cs) (referenceAfter hv (slotCount n) k cs)
     after-alike = rw (own-agree hv n u k cs alike .0) at (commands-agree hv n u k cs alike .alike)
 
-    after-good : ReferenceGood (slotCount n) (referenceAfter hv (slotCount n) k cs)
+    pub after-good : ReferenceGood (slotCount n) (referenceAfter hv (slotCount n) k cs)
     after-good = alike-good after-alike
 
     run-leaves :

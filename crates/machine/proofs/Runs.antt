@@ -138,7 +138,8 @@ module _ (hv : Bool) (n : Counts) (words : List ℕ) (input output : Bytes) (h :
       rw (run-answered, run-output) (take-sets output _ _ (answers-length hv cs (stateOf n words)) (takes-room input (length output)))
 
   -- "Unwritten output keeps its bytes."
-  pub run-past : drop (runOf hv n words input output .answered * 24) (runOf hv n words input output .output) ≡ drop (runOf hv n words input output .answered * 24) output
+  pub run-past : drop (runOf hv n words input output .answered * 24) (runOf hv n words input output .output)
+      ≡ drop (runOf hv n words input output .answered * 24) output
   run-past =
       let cs : List Command = commandsOf input output in
       let u : State = stateOf n words in

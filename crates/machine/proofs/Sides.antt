@@ -44,7 +44,7 @@ use Rattle.machine.proofs.Sound.{sound-inserted}
 use Rattle.machine.proofs.State.{key-address}
 
 -- ---- tests
-eqb-self : (n : ℕ) → eqb n n ≡ true
+pub eqb-self : (n : ℕ) → eqb n n ≡ true
 eqb-self n = eq-eqb n n refl
 
 same-self : (b : Bool) → Bool·beq b b ≡ true

@@ -114,7 +114,8 @@ pub record ServeSays (n : Counts) (k : Reference) (strand side : ℕ) (m : Miss)
   pub says : MissSays n k strand side m b
 
 -- ---- every list
--- what a caller does: a run, with the stream's mark, its bytes and the output that it lends; or the serving of a miss, of a strand and a side, with its two tables
+-- what a caller does: a run, with the stream's mark, its bytes and the output that it lends; or the serving of a miss, of a strand and a side, with its two
+-- tables
 pub data Event : Type 0 where
   run : Bool → Bytes → Bytes → Event
   serve : ℕ → ℕ → Bytes → Bytes → Event

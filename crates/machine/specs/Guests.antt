@@ -40,10 +40,12 @@ pub record Named (cs : List Command) (strand : ℕ) : Type 0 where
 abbrev pub Guests : Ledger → List Command → Type 0
 Guests l cs = (strand : ℕ) → Named cs strand → l .registers strand 3 ≤ 1
 
--- what they leave: every strand's partition and mode, named or not; and on either side each locked entry of a partition that none of them is in
+-- what they leave: every strand's partition, mode and, beyond what the request asks, translation, named or not; and on either side each locked entry of a
+-- partition that none of them is in
 pub record Confined (before : Ledger) (cs : List Command) (after : Ledger) : Type 0 where
   pub partitions : (strand : ℕ) → after .registers strand 0 ≡ before .registers strand 0
   pub modes : (strand : ℕ) → after .registers strand 3 ≡ before .registers strand 3
+  pub translations : (strand : ℕ) → after .registers strand 4 ≡ before .registers strand 4
   pub locked : (side : ℕ) (e : Entry) → side < 2 → Live e (before .entries side) → e .locked ≡ true
       → ((strand : ℕ) → Named cs strand → before .registers strand 0 ≡ e .partition → ⊥)
       → Live e (after .entries side)

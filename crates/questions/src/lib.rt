@@ -5,7 +5,7 @@ ghost use Rattle.machine.specs.State.{stateIn};
 ghost use Rattle.state.specs.Calls.{Lent};
 ghost use lib.Dec.{leb};
 ghost use Rattle.machine.specs.Registers.{mode};
-ghost use Rattle.machine.specs.Permission.{leastMode};
+ghost use Rattle.machine.specs.Permission.{guestWritable, leastMode};
 ghost use Rattle.machine.specs.Questions.{selectorFits, nucleusFetch, sizeFits, ask, verdict};
 ghost use Rattle.questions.specs.Verdicts.{Either, askedSide, askedContext, askedOpen};
 ghost use Rattle.machine.specs.declared.Command.the-variants as command;
@@ -43,11 +43,20 @@ fn mode_allows(state: &[u64], strand: u8, guest: bool) -> bool
     ensures { λ r. ⌜ r ≡ leb (leastMode guest) (mode (stateIn (now (state .entry)) .registers) strand) ⌝ }
 {
     let mode = state::read_register(state, strand, machine::MODE);
-    if guest {
-        machine::PRIVILEGED <= mode
+    machine::HYPERPRIVILEGED <= mode || (guest && machine::PRIVILEGED <= mode)
+}
+
+// The same of a write, by the least mode that the register takes: fewer instructions where that is not known beforehand.
+fn mode_writes(state: &[u64], strand: u8, number: u8) -> bool
+    requires { ⌜ Lent (now state) × (strand < 4) ⌝ }
+    ensures { λ r. ⌜ r ≡ leb (leastMode (guestWritable number)) (mode (stateIn (now (state .entry)) .registers) strand) ⌝ }
+{
+    let least = if registers::is_guest_writable(number) {
+        machine::PRIVILEGED
     } else {
-        machine::HYPERPRIVILEGED <= mode
-    }
+        machine::HYPERPRIVILEGED
+    };
+    least <= state::read_register(state, strand, machine::MODE)
 }
 
 fn ask_write(state: &[u64], strand: u8, number: u8, value: u64) -> Verdict
@@ -63,8 +72,21 @@ fn ask_write(state: &[u64], strand: u8, number: u8, value: u64) -> Verdict
     if !registers::is_allowed(number, value) {
         return Verdict::Refused(Refusal::Value);
     }
-    if !mode_allows(state, strand, registers::is_guest_writable(number)) {
+    if !mode_writes(state, strand, number) {
         return Verdict::Refused(Refusal::Permission);
+    }
+    Verdict::Passed
+}
+
+// 5 and 6, with which commands on a side begin.
+fn ask_side(strand: u8, side: u8) -> Verdict
+    ensures { λ r. ⌜ r ≡ ask (askedSide strand side) ⌝ }
+{
+    if 4 <= strand {
+        return Verdict::Refused(Refusal::Strand);
+    }
+    if 2 <= side {
+        return Verdict::Refused(Refusal::Side);
     }
     Verdict::Passed
 }
@@ -73,11 +95,8 @@ fn ask_insert(state: &[u64], strand: u8, side: u8, flags: u8, word: u64) -> Verd
     requires { ⌜ Lent (now state) ⌝ }
     ensures { λ r. ⌜ Either r (stateIn (now (state .entry))) (command.Insert strand side flags word) ⌝ }
 {
-    if 4 <= strand {
-        return Verdict::Refused(Refusal::Strand);
-    }
-    if 2 <= side {
-        return Verdict::Refused(Refusal::Side);
+    if let Verdict::Refused(refusal) = ask_side(strand, side) {
+        return Verdict::Refused(refusal);
     }
     if 4 <= flags {
         return Verdict::Refused(Refusal::Operand);
@@ -97,19 +116,6 @@ fn ask_insert(state: &[u64], strand: u8, side: u8, flags: u8, word: u64) -> Verd
         operands::entry_for(state, strand, side, flags, word),
     ) {
         return Verdict::Refused(Refusal::NoSlot);
-    }
-    Verdict::Passed
-}
-
-// 5 and 6, with which commands on a side begin.
-fn ask_side(strand: u8, side: u8) -> Verdict
-    ensures { λ r. ⌜ r ≡ ask (askedSide strand side) ⌝ }
-{
-    if 4 <= strand {
-        return Verdict::Refused(Refusal::Strand);
-    }
-    if 2 <= side {
-        return Verdict::Refused(Refusal::Side);
     }
     Verdict::Passed
 }

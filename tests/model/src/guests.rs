@@ -1,6 +1,6 @@
-//! What document 02's U6 wants stated, on the words before and after a run: while a stream is not marked as the hypervisor's and each strand
-//! that it names is in mode 0 or 1, no partition register and no mode changes, and no locked entry is lost whose partition is that of none of
-//! these strands. Held by every run alone, it is held by every list of them.
+//! What document 02's U6 wants stated, on the words before and after a run. Guests are the strands that an unmarked stream names, while all
+//! of them are in modes below 2: they change neither partition nor mode of any strand, and a locked entry stays unless it belongs to the
+//! partition of one of them. Held by every run alone, it is held by every list of them.
 use crate::command::{decode, strand_of, width};
 use crate::generate::Run;
 use t1mmu::numbers::{cell_at, slot_at, HYPERPRIVILEGED, MODE, PARTITION, SIDES, SLOTS, SLOT_WORDS, STATE_WORDS, STRANDS};

@@ -20,7 +20,8 @@ returns : tie.Need-returns
 returns c =
     let told = c .before .before .before in
     let a = told .before .args in
-    refused (askedSide (a .strand) (a .side)) _ (told .ask-side .ensures) (c .before .refusal .given .1) (every (askedContext (a .strand) (a .side) (a .selector)))
+    refused (askedSide (a .strand) (a .side)) _ (told .ask-side .ensures) (c .before .refusal .given .1)
+    (every (askedContext (a .strand) (a .side) (a .selector)))
 
 pub ask-context-spec : {M : Type 1} → statement M
 ask-context-spec =

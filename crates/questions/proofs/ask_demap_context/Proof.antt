@@ -1,7 +1,5 @@
 -- `questions::ask_demap_context` meets its contract: 5 to 7, then 16.
-use Prim.Native.Nat.{_<_}
 use mathlib.Core.Bool.{Bool}
-use mathlib.Core.List.{[], _∷_}
 use borrow.Author.Needs.{needs}
 use Rattle.machine.specs.State.{stateIn}
 use Rattle.machine.specs.Permission.{permitted}

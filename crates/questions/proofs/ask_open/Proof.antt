@@ -1,5 +1,4 @@
 -- `questions::ask_open` meets its contract: 5 and 6, then 16.
-use Prim.Native.Nat.{_<_}
 use mathlib.Core.List.{[], _∷_}
 use lib.Dec.{leb}
 use borrow.Author.Needs.{needs}

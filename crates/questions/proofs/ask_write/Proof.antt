@@ -1,6 +1,5 @@
 -- `questions::ask_write` meets its contract, question by question.
 use Prim.Native.Nat.{ℕ}
-use mathlib.Core.Path.{_≡_}
 use mathlib.Core.Bool.{Bool}
 use borrow.Author.Needs.{needs}
 use borrow.Author.Tests.{lt-ltb, le-ltb}
@@ -27,16 +26,8 @@ left-3 : (hv : Bool) (c : tie.Else3) → Past hv (c .before .before .before .bef
 unfolding asked
 left-3 hv c = yes (left-2 hv (c .before .before)) (held (c .before .is-allowed .ensures) (c .if3 .left))
 
--- the code asks of the mode what the definition asks
-mode : (c : tie.After-mode-allows) →
-    let left = c .before .before in
-    let a = left .before .before .before .before .before .before .args in
-    (hv : Bool) → c .mode-allows .result ≡ permitted hv (stateIn (a .state .now) .registers) (command.Write (a .strand) (a .number) (a .value))
-unfolding permitted
-mode c hv = rw (c .before .is-guest-writable .ensures) at (c .mode-allows .ensures)
-
 pub ask-write-spec : {M : Type 1} → statement M
-unfolding asked
+unfolding asked permitted
 ask-write-spec =
     tie.close
     (tie.spec
@@ -46,6 +37,5 @@ ask-write-spec =
     (λ c κs. search needs)
     (λ c hv. no (left-2 hv (c .before .before)) (failed (c .before .is-allowed .ensures) (c .if3 .taken)))
     (λ c κs. search needs)
-    (λ c κs. search needs)
-    (λ c hv. no (left-3 hv (c .before .before .before)) (failed (mode (c .before) hv) (c .if4 .taken)))
-    (λ c hv. none (yes (left-3 hv (c .before .before .before)) (held (mode (c .before) hv) (c .if4 .left)))))
+    (λ c hv. no (left-3 hv (c .before .before)) (failed (c .before .mode-writes .ensures) (c .if4 .taken)))
+    (λ c hv. none (yes (left-3 hv (c .before .before)) (held (c .before .mode-writes .ensures) (c .if4 .left)))))
