@@ -1,9 +1,9 @@
 //! What document 02's U6 wants stated, on the words before and after a run. Guests are the strands that an unmarked stream names, while all
-//! of them are in modes below 2: they change neither partition nor mode of any strand, and a locked entry stays unless it belongs to the
-//! partition of one of them. Held by every run alone, it is held by every list of them.
+//! of them are in modes below 2: they change neither partition nor mode of any strand (nor, beyond the request, its translation), and a
+//! locked entry stays unless it belongs to the partition of one of them. Held by every run alone, it is held by every list of them.
 use crate::command::{decode, strand_of, width};
 use crate::generate::Run;
-use t1mmu::numbers::{cell_at, slot_at, HYPERPRIVILEGED, MODE, PARTITION, SIDES, SLOTS, SLOT_WORDS, STATE_WORDS, STRANDS};
+use t1mmu::numbers::{cell_at, slot_at, HYPERPRIVILEGED, MODE, PARTITION, SIDES, SLOTS, SLOT_WORDS, STATE_WORDS, STRANDS, TRANSLATION};
 
 /// A side under a run of guests.
 #[derive(Clone, Copy, Debug, PartialEq)]
@@ -52,7 +52,7 @@ pub fn confined(before: &[u64], run: &Run, taken: usize, after: &[u64]) -> Resul
         return Ok(Vec::new());
     }
     for strand in 0..STRANDS {
-        if let Some(register) = [PARTITION, MODE].into_iter().find(|n| before[cell_at(strand, *n)] != after[cell_at(strand, *n)]) {
+        if let Some(register) = [PARTITION, MODE, TRANSLATION].into_iter().find(|n| before[cell_at(strand, *n)] != after[cell_at(strand, *n)]) {
             return Err(format!("guests changed register {register} of strand {strand}"));
         }
     }
