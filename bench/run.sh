@@ -2,7 +2,7 @@
 # Two tables, in markdown: the proved library beside a plain Rust and a plain C unit, and in short runs and serves beside the C unit without
 # its soundness test. Nanoseconds are the best of many rounds in which the contestants take turns, instructions are callgrind's (no figure
 # without valgrind). --only N prints one row of the first table, --runs the second table, --list the rows' numbers. T1MMU_LIB names a
-# folder with the libt1mmu.a to measure in place of this repository's.
+# folder with the archives to measure in place of this repository's.
 set -euo pipefail
 cd "$(dirname "$0")/.."
 source tools/library.bash

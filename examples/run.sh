@@ -7,7 +7,7 @@ source tools/library.bash
 need rt gcc
 need_library mmu_stream
 mkdir -p target/examples
-gcc -std=c99 -Wall -Wextra -Iinclude -o target/examples/printed_run examples/c/printed_run.c "$library"
+gcc -std=c99 -Wall -Wextra -Iinclude -o target/examples/printed_run examples/c/printed_run.c "${library[@]}"
 echo "document 01's printed run, from C (> a command, < its answer):"
 target/examples/printed_run
 echo

@@ -22,8 +22,8 @@
  * Nothing else is asked. No call allocates, keeps a pointer, has hidden state, or does input or output: calls on different states may run
  * in different threads at the same time.
  *
- * Link with libt1mmu.a (x86-64 Linux). `bash tools/library.bash` proves and builds it in target/library: `rt staticlib` compiles the crates
- * t1mmu and t1mmu_miss (the miss handler) apart, and ar joins their objects as they are. Of the C library they call memset alone.
+ * Link with libt1mmu.a (x86-64 Linux), which is written by `rt staticlib t1mmu` to target/staticlib; for the two calls of the miss
+ * handler with libt1mmu_miss.a, too (`rt staticlib t1mmu_miss`). Of the C library they call memset alone.
  */
 #ifndef T1MMU_H
 #define T1MMU_H
@@ -37,7 +37,7 @@ extern "C" {
 
 /* ---- sizes ---- */
 
-#define T1MMU_VERSION 0x040001u /* 4.0.1: major * 65536 + minor * 256 + patch */
+#define T1MMU_VERSION 0x040000u /* 4.0.0: major * 65536 + minor * 256 + patch */
 #define T1MMU_STATE_WORDS 776   /* the strands' register cells, then the slots of side 0, then those of side 1, then the miss records */
 #define T1MMU_ANSWER_BYTES 24
 #define T1MMU_STRANDS 4
@@ -130,22 +130,21 @@ enum t1mmu_register {
  * set that is I/O space, which takes no nonfaulting load and no atomic access: they get T1MMU_DATA_ACCESS_EXCEPTION, with context 0 in tag
  * access.
  *
- * The mode of the strand that a command names also says what the command may do; all else gets T1MMU_REFUSED_PERMISSION (specs: asked):
+ * The mode of the strand that a command names also says what the command may do; all else gets T1MMU_REFUSED_PERMISSION (specs: permitted):
  *   - T1MMU_USER: access and read;
  *   - T1MMU_PRIVILEGED: these, and write of registers 1, 2, 5 and 8 to 21, insert with flags 0 (virtual and unlocked), demap page (real, too),
  *     demap context, pointers and rate;
  *   - T1MMU_HYPERPRIVILEGED: all that names a strand.
- * An invalidation names none. It is taken in the hypervisor's streams alone, whatever the modes are; these permit nothing else besides (specs:
- * MarkAlone).
+ * An invalidation names none. It is taken in the hypervisor's streams alone, whatever the modes are; these permit nothing else besides.
  *
- * What a hypervisor may rely on, over any commands that t1mmu_run takes and any misses that t1mmu_serve serves between them, where every strand
- * that they name is in mode 0 or 1: no strand's partition, mode or translation changes, and every locked entry stays that belongs to a partition
- * in which none of these strands is. (specs: GuestsConfined) What it has to see to itself:
+ * What a hypervisor may rely on, over any commands that t1mmu_run takes, where every strand that they name is in mode 0 or 1: no strand's
+ * partition, mode or translation changes, and every locked entry stays that belongs to a partition in which none of these strands is.
+ * (specs: GuestsConfined) What it has to see to itself:
  *   - Any bytes may name any strand, another guest's too, and act as that strand; at reset all are in mode 2. Before it runs a guest's bytes
  *     it sets mode, partition and translation of every strand that they might name.
  *   - Mode 1 may insert any physical address: memory is the hypervisor's to guard.
  *   - No command leaves mode 0 or 1 again, by whichever call it comes. The hypervisor raises a strand's mode itself, between calls, in the
- *     state's word at T1MMU_CELL_AT(strand, T1MMU_MODE): with 0, 1 or 2 there the state is as sound as it was (specs: HostTold).
+ *     state's word at T1MMU_CELL_AT(strand, T1MMU_MODE), where 0, 1 and 2 are sound.
  */
 enum t1mmu_mode { T1MMU_USER = 0, T1MMU_PRIVILEGED = 1, T1MMU_HYPERPRIVILEGED = 2 };
 
@@ -324,7 +323,7 @@ struct t1mmu_report t1mmu_run_hypervisor(uint64_t *state, size_t words, const ui
  */
 
 /*
- * Which 16 bytes t1mmu_serve looks at, whatever stands in them; the state is only read. Refused: 1, 5, 6, 14, in this order.
+ * Which 16 bytes the miss handler looks at, whatever stands in them; the state is only read. Refused: 1, 5, 6, 14, in this order.
  * (specs: partOf)
  */
 struct t1mmu_part t1mmu_hand_back(const uint64_t *state, size_t words, uint8_t strand, uint8_t side, const uint8_t *zero, size_t zero_length,

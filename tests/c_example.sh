@@ -6,7 +6,7 @@ source tools/library.bash
 need gcc g++
 need_library
 mkdir -p target/tests
-gcc -std=c99 -Wall -Wextra -Werror -pedantic -Iinclude -o target/tests/printed_run examples/c/printed_run.c "$library"
+gcc -std=c99 -Wall -Wextra -Werror -pedantic -Iinclude -o target/tests/printed_run examples/c/printed_run.c "${library[@]}"
 g++ -Wall -Wextra -Werror -pedantic -fsyntax-only -x c++ include/t1mmu.h
 target/tests/printed_run >target/tests/both_runs.out
 sed '/^end /q' target/tests/both_runs.out >target/tests/printed_run.out

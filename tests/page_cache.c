@@ -162,8 +162,7 @@ int main(int argc, char **argv)
         return 3;
     if (steps <= 0 || t1mmu_reset(state, T1MMU_STATE_WORDS) != 0)
         return 2;
-    /* without a rule the first difference is enough */
-    for (long i = 0; i < steps && (rule < 0 || differ == 0); i++) {
+    for (long i = 0; i < steps; i++) {
         uint8_t answer[T1MMU_ANSWER_BYTES], asked[T1MMU_ANSWER_BYTES];
         if (draw(100) < 12) {
             int by = other_command();

@@ -7,7 +7,7 @@ source tools/library.bash
 need gcc
 need_library
 mkdir -p target/tests
-gcc -std=c99 -O2 -Wall -Wextra -Werror -pedantic -Iinclude -o target/tests/page_cache tests/page_cache.c "$library"
+gcc -std=c99 -O2 -Wall -Wextra -Werror -pedantic -Iinclude -o target/tests/page_cache tests/page_cache.c "${library[@]}"
 target/tests/page_cache 300000
 for ((rule = 0; ; rule++)); do
     got=0

@@ -1,8 +1,5 @@
-# The library is built here and nowhere else: sourced at the repository's top by all that links it. Run by itself, it says where the library is.
+# Sourced at the repository's top by all that links the library: it is built here and nowhere else.
 set -o pipefail
-
-# The crates whose objects make the library. Each is compiled apart: what one calls does not change the code of another.
-library_crates=(t1mmu t1mmu_miss)
 
 # need TOOL ..: ends with what is missing, and where it comes from.
 need() {
@@ -13,7 +10,6 @@ need() {
         case $tool in
         rt) echo "missing: rt, the command of the Rattle toolchain; the toolchain's bin folder has to be in PATH" ;;
         cargo) echo "missing: cargo, which comes with Rust (Debian's package cargo)" ;;
-        ar | nm) echo "missing: $tool (Debian's package binutils)" ;;
         *) echo "missing: $tool (Debian's package $tool)" ;;
         esac >&2
     done
@@ -82,44 +78,22 @@ build_archives() {
     done
 }
 
-# join_objects CRATE ..: target/library/libt1mmu.a of the objects in the crates' archives, as they are, each with its crate's name before its
-# own, as two crates may name theirs alike. The same objects give the same bytes, which are then not written again.
-join_objects() {
-    local crate object folder=target/library/objects new=target/library/joined.a
-    rm -rf "$folder" "$new"
-    mkdir -p "$folder"
-    for crate; do
-        # extracted by name, the second of two alike would overwrite the first
-        [ -z "$(ar t "target/staticlib/lib$crate.a" | sort | uniq -d)" ] || { echo "lib$crate.a has two objects of one name" >&2; exit 1; }
-        for object in $(ar t "target/staticlib/lib$crate.a"); do
-            ar p "target/staticlib/lib$crate.a" "$object" >"$folder/$crate-$object"
-        done
-    done
-    ar rcsD "$new" "$folder"/*
-    if cmp -s "$new" target/library/libt1mmu.a; then rm "$new"; else mv "$new" target/library/libt1mmu.a; fi
-}
-
-# need_library [PROGRAM ..]: the folder in T1MMU_LIB has libt1mmu.a; where it is not set, the library is proved and built. Leaves T1MMU_LIB
-# set, for cargo's build scripts too, and the archive in `library`. The programs are proved and built as well.
+# need_library [PROGRAM ..]: the folder in T1MMU_LIB has the library's two archives; where it is not set, they are proved and built.
+# Leaves T1MMU_LIB set, for cargo's build scripts too, and the archives in `library`. The programs are proved and built as well.
 need_library() {
+    local crate archives=(t1mmu t1mmu_miss)
     if [ -n "${T1MMU_LIB:-}" ]; then
-        [ -f "$T1MMU_LIB/libt1mmu.a" ] || { echo "missing: libt1mmu.a in $T1MMU_LIB, which T1MMU_LIB names" >&2; exit 1; }
+        for crate in "${archives[@]}"; do
+            [ -f "$T1MMU_LIB/lib$crate.a" ] || { echo "missing: lib$crate.a in $T1MMU_LIB, which T1MMU_LIB names" >&2; exit 1; }
+        done
         T1MMU_LIB=$(realpath "$T1MMU_LIB")
         [ $# = 0 ] || prove "$@"
     else
-        need ar
-        T1MMU_LIB=$PWD/target/library
-        prove "${library_crates[@]}" "$@"
-        build_archives "${library_crates[@]}"
-        join_objects "${library_crates[@]}"
+        T1MMU_LIB=$PWD/target/staticlib
+        prove "${archives[@]}" "$@"
+        build_archives "${archives[@]}"
     fi
-    library=$T1MMU_LIB/libt1mmu.a
+    library=("${archives[@]/#/$T1MMU_LIB/lib}")
+    library=("${library[@]/%/.a}")
     export T1MMU_LIB
 }
-
-if [ "$0" = "${BASH_SOURCE[0]}" ]; then
-    set -eu
-    cd "$(dirname "$0")/.."
-    need_library
-    echo "$library"
-fi

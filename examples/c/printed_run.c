@@ -4,7 +4,7 @@
  * mode what strand 0 could not; then both find the page. The last line of a run begins as the stream program's does: end, commands answered,
  * bytes taken, stop.
  *
- *     bash tools/library.bash && gcc -Iinclude -o target/printed_run examples/c/printed_run.c target/library/libt1mmu.a
+ *     rt staticlib t1mmu && gcc -Iinclude -o target/printed_run examples/c/printed_run.c target/staticlib/libt1mmu.a
  */
 #include <inttypes.h>
 #include <stdio.h>

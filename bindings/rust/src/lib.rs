@@ -1,4 +1,4 @@
-//! The translation unit of an UltraSPARC T1 core, over the proved library (`libt1mmu.a`).
+//! The translation unit of an UltraSPARC T1 core, over the proved library (`libt1mmu.a`, `libt1mmu_miss.a`).
 //!
 //! Every call is proved equal to a definition in `crates/machine/specs`, and again to a second text of it; this crate adds types and names, and lends slices.
 //! The proof asks that the ranges lent may be read, and that those written overlap no other: `&[u8]` and `&mut [u8]` say just that.

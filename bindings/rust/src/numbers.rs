@@ -11,7 +11,7 @@ macro_rules! numbers {
 
 numbers! {
     /// The version that this crate is written for: major * 65536 + minor * 256 + patch.
-    VERSION: u32 = 0x04_00_01;
+    VERSION: u32 = 0x04_00_00;
     /// The words of a state.
     STATE_WORDS: usize = 776;
     /// The bytes of an answer.

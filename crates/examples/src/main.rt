@@ -1,10 +1,13 @@
-// Worked examples of the paper: which entry an insertion removes, and which it displaces, each on an empty side of 64 slots; and which
-// pages a search compares. The numbers printed stand in keys and entries or are what the slots answer.
+// Worked examples of the paper: which entry an insertion removes, and which it displaces, each on an empty side of 64 slots by itself
+// and, beside it, by commands to the whole unit; and which pages a search compares. The numbers printed stand in keys and entries or are
+// what the library answers.
+mod commands;
 mod searches;
 
 ghost use Rattle.std.specs.Prelude.{◌≡◌, false, ◌+◌, ◌-◌, ◌*◌, ◌<◌, ◌≤◌, ◌%◌, length};
 ghost use Rattle.machine.specs.Slots.{slots_of};
 ghost use Rattle.search_count.specs.Counted.{searched_any};
+ghost use Rattle.machine.specs.State.{state_length};
 ghost use Rattle.machine.specs.Insertion.{entry_of};
 ghost use Rattle.machine.specs.declared.Key.TheVariants.{Virtual};
 ghost use Rattle.examples.specs.Lookup.{found_slot};
@@ -23,12 +26,13 @@ fn key(context: u64, address: u64) -> Key
     }
 }
 
-// An unlocked entry whose word has v, cp and w set, of size code 0 (8 KB) or 1 (64 KB).
+// An unlocked entry whose word has v, cp and w set. Size code 0 is 8 KB and maps to 0x80000, 1 is 64 KB and maps to 0x100000, so that a load
+// tells which one answers.
 fn entry(key: Key, code: u64) -> Slot
     requires { code < 2 }
-    ensures { result ≡ entry_of key false (0x8000000000080440 + code) }
+    ensures { result ≡ entry_of key false (0x8000000000080440 + code * 0x80001) }
 {
-    tlb_update::new_entry(key, false, 0x8000_0000_0008_0440 + code)
+    tlb_update::new_entry(key, false, 0x8000_0000_0008_0440 + code * 0x8_0001)
 }
 
 // The entry that answers to a key, or an empty slot.
@@ -100,13 +104,20 @@ fn print_side(slots: &mut [u64])
 fn overlap(first: u64, second: u64) {
     let mut side = [0u64; machine::SIDE_WORDS];
     let slots: &mut [u64] = &mut side;
+    let mut words = [0u64; machine::STATE_WORDS];
+    let state: &mut [u64] = &mut words;
     let small = entry(key(first, 0x40_2000), 0);
     let large = entry(key(second, 0x40_0000), 1);
     tlb_update::insert(slots, small);
     tlb_update::insert(slots, large);
+    state::reset(state);
+    commands::insert(state, small);
+    commands::insert(state, large);
     print_heading(small, b", then ", large);
     print_lookup(slots, first, 0x40_2000);
+    commands::print_load(state, first, 0x40_2008);
     print_side(slots);
+    commands::print_live(state);
 }
 
 // The key of insertion q, from 1: 8 KB pages one after the other.
@@ -131,23 +142,28 @@ fn print_displaced(q: u64, old: Slot, new: Found) {
 }
 
 // Insertion q, and what it displaces.
-fn insertion(slots: &mut [u64], q: u64)
-    requires { (length slots.old % 4 ≡ 0) × (1 ≤ q) × (q ≤ 66) }
+fn insertion(slots: &mut [u64], state: &mut [u64], q: u64)
+    requires { (length slots.old % 4 ≡ 0) × (length state.old ≡ state_length) × (1 ≤ q) × (q ≤ 66) }
 {
     let new = numbered(q);
     if let Placed::Displaced(old) = tlb_update::insert(slots, entry(new, 0)) {
         let found = search_count::search_any(slots, new).found;
         print_displaced(q, old, found);
     }
+    let reply = commands::insert(state, entry(new, 0));
+    if reply.kind == commands::DISPLACED {
+        let found = search_count::search_any(commands::side_of(state), new).found;
+        commands::print_displaced(q, reply.first, found);
+    }
 }
 
 // Insertions 1 to 66.
-fn insertions(slots: &mut [u64])
-    requires { length slots.old % 4 ≡ 0 }
+fn insertions(slots: &mut [u64], state: &mut [u64])
+    requires { (length slots.old % 4 ≡ 0) × (length state.old ≡ state_length) }
 {
     let mut q = 1;
     while q <= 66 {
-        insertion(slots, q);
+        insertion(slots, state, q);
         q += 1;
     }
 }
@@ -156,11 +172,15 @@ fn insertions(slots: &mut [u64])
 fn displacement() {
     let mut side = [0u64; machine::SIDE_WORDS];
     let slots: &mut [u64] = &mut side;
+    let mut words = [0u64; machine::STATE_WORDS];
+    let state: &mut [u64] = &mut words;
     let first = entry(numbered(1), 0);
     let last = entry(numbered(66), 0);
+    state::reset(state);
     print_heading(first, b", and so on to ", last);
-    insertions(slots);
+    insertions(slots, state);
     print_side(slots);
+    commands::print_live(state);
 }
 
 fn main() {

@@ -20,8 +20,7 @@ use Rattle.machine.specs.State.{Counts, State, side_of, sound}
 use Rattle.machine.specs.Questions.{insertion, verdict}
 use Rattle.machine.specs.Access.{prepare_bypass, lookup_key, prepare, judge, translated_by, settle_judged, settle_looked, settle}
 use Rattle.machine.specs.Step.{placed_answer, act, step_by, step}
-use Rattle.machine.specs.Fields.{IsBits, HasBits, Fields}
-use Rattle.machine.specs.Demand2.{Demand2}
+use Rattle.machine.specs.Demand2.{IsBits, HasBits, Fields, Demand2}
 use Rattle.machine.specs.declared.Tte.{Tte}
 use Rattle.machine.specs.declared.Slot.{Slot}
 use Rattle.machine.specs.declared.Key.{Key}

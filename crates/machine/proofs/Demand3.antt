@@ -17,6 +17,7 @@ use Rattle.machine.specs.Slots.{no_slot, is_live}
 use Rattle.machine.specs.Insertion.{candidate, has_slot, placed}
 use Rattle.machine.specs.Sound.{slot_sound}
 use Rattle.machine.specs.Registers.{register_words}
+use Rattle.machine.specs.Permission.{permitted}
 use Rattle.machine.specs.Questions.{flag_locked, insertion, asked_insertion, asked, ask, verdict}
 use Rattle.machine.specs.Step.{placed_answer, act, step_by, step, insert_step}
 use Rattle.machine.specs.Access.{Stepped}
@@ -261,7 +262,7 @@ module _ {n : Counts} {u : State} {k : Reference} (a : ReferenceAlike n u k) (st
 
   module _ (hv : Bool) (m : mode_allows l strand (eqb flags 0) ≡ true) where
     same_step : step hv u c ≡ insert_step u strand side flags word
-    unfolding step verdict asked ask insert_step
+    unfolding step verdict asked permitted ask insert_step
     same_step = rw (lt-ltb strand 4 s, lt-ltb side 2 d, lt-ltb flags 4 f, sym (allows h strand s refl) ∙ m)
 
     same_first : first_no (questions hv l c) ≡ number

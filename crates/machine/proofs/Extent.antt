@@ -348,7 +348,7 @@ module _ {n : Counts} {u : State} {l : Ledger} (h : Alike n u l) (q : Asked) (s 
             )
             (near-hits e f past t after v size used aligned page)
 
-pub extent : (n : Counts) → Extent (slot_count n)
+pub extent : (n : Counts) → Extent n
 extent n = record {
   page = λ k g q s c attributes code address small b paged after v size used aligned page.
       near-told (good-alike n k g).ledger q s c attributes code address small paged b after v size used aligned page;

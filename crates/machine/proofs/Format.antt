@@ -11,8 +11,7 @@ use borrow.Author.Tests.{eqb-true, ltb-true, lt-ltb, le-ltb}
 use Rattle.laws.proofs.Bools.{by-test, clash}
 use Rattle.machine.specs.Stream.{byte, eight, width_of, command_at, decode_at}
 use Rattle.machine.specs.Ledger.{big_endian, value_from}
-use Rattle.machine.specs.Format.{encoded, fits}
-use Rattle.machine.specs.Decodes.{Decodes}
+use Rattle.machine.specs.Format.{encoded, fits, Decodes}
 use Rattle.machine.specs.declared.Command.{Command}
 use Rattle.machine.specs.declared.Command.TheVariants as command
 use Rattle.machine.specs.declared.Decoded.TheVariants.{Known, Stop}

@@ -4,27 +4,27 @@
 use Prim.Native.Nat.{ℕ, suc, ◌≤◌, ◌<◌}
 use mathlib.Core.Path.{◌≡◌, refl, sym, ap, ◌∙◌}
 use mathlib.Core.Bool.{Bool, true, false, cond, ◌&&◌}
-use mathlib.Core.List.{List, [], ◌∷◌, ◌++◌, map}
+use mathlib.Core.List.{List, [], ◌∷◌, ◌++◌}
 use mathlib.Core.Logic.{⊎_elim}
 use native.Mathlib.Omega.{arith}
-use lib.Dec.{eqb, leb, ltb}
+use lib.Dec.{eqb, ltb}
 use borrow.Author.Tests.{eqb-true, eqb-false, eq-eqb, ne_eqb, leb-true, ltb-true}
 use Rattle.laws.specs.Tests.{tick, count, all_of}
 use Rattle.laws.proofs.Bools.{by-test, clash, and_left, and_right}
 use Rattle.laws.proofs.Finds.{stands-count, count_index, how_many_lem}
 use Rattle.machine.specs.Registers.{partition}
-use Rattle.machine.specs.State.{Counts, counts, slot_count, State, side_of}
+use Rattle.machine.specs.State.{Counts, counts, slot_count, State}
+use Rattle.machine.specs.Permission.{permitted}
 use Rattle.machine.specs.Questions.{asked, verdict}
 use Rattle.machine.specs.Step.{step}
-use Rattle.machine.specs.Ledger.{Entry, Ledger, Live, Name, unlocked, guest_writes, first_no, mode_allows, questions, does, enters}
-use Rattle.machine.specs.Ledger.{miss_questions, refused, miss}
+use Rattle.machine.specs.Ledger.{Entry, Ledger, Name, unlocked, guest_writes, first_no, mode_allows, questions, does, enters}
 use Rattle.machine.specs.Places.{slots, Reference, reference_words}
+use Rattle.machine.specs.Demand3.{Live}
 use Rattle.machine.specs.Frame.{LivesIn, Removes, invalidated, overlapped, demapped_page, demapped_context, demapped_all, displaced}
 use Rattle.machine.specs.Good.{ReferenceGood, GoodWords}
-use Rattle.machine.specs.Reference.{displaced_name, reference_next, reference_after, miss_next}
+use Rattle.machine.specs.Reference.{displaced_name, reference_next, reference_after}
 use Rattle.machine.specs.Extent.{disturbs}
-use Rattle.machine.specs.Guests.{names, Act, sent, served, named_by, Named, Guests, Confined, act_next, acts_after}
-use Rattle.machine.specs.Guests.{Unmarked, none, run, serve, GuestsConfined, is_invalidation, MarkAlone}
+use Rattle.machine.specs.Guests.{names, Named, Guests, Confined, Unmarked, none, run, GuestsConfined}
 use Rattle.machine.specs.declared.Slot.{Slot}
 use Rattle.machine.specs.declared.Command.{Command}
 use Rattle.machine.specs.declared.Command.TheVariants as command
@@ -36,8 +36,8 @@ use Rattle.machine.proofs.Commands.{alike-side}
 use Rattle.machine.proofs.Demand3.{first_fine, alike-sound, step-says}
 use Rattle.machine.proofs.Good.{state_for, good-alike}
 use Rattle.machine.proofs.Frame.{count-lives, lives-count, lives-same, framed}
-use Rattle.machine.proofs.Extent.{does-lasts, extent}
-use Rattle.machine.proofs.Reference.{own-next, after-good, miss_next_lem, told, both-sides}
+use Rattle.machine.proofs.Extent.{does-lasts}
+use Rattle.machine.proofs.Reference.{own-next, after-good, both-sides}
 
 ruleset conj = (and_left, and_right, ltb-true)
 
@@ -111,7 +111,7 @@ module _ (u : State) (side : ℕ) (e : Entry) (locked : e.locked ≡ true) where
   lock-held t = clash (rw locked at t) refl
 
   spared : {c : Command} → Removes u side e c → verdict false u c ≡ Passed → Strangers c → ⊥
-  unfolding asked all_of names
+  unfolding asked permitted all_of names
   spared invalidated v far = let q = passed-asked false u _ v in clash (and_right (ltb side 2) false q) refl
   spared (overlapped {strand} p t) v far = let q = passed-asked false u _ v in far strand (search conj) (eqb-self strand) p
   spared (demapped_page {strand} p t) v far = let q = passed-asked false u _ v in far strand (search conj) (eqb-self strand) p
@@ -119,140 +119,79 @@ module _ (u : State) (side : ℕ) (e : Entry) (locked : e.locked ≡ true) where
   spared (demapped_all p t) v far = lock-held t
   spared (displaced full apart t) v far = lock-held t
 
--- nor does a served miss, which inserts without a lock
-miss-spared : (u : State) (side : ℕ) (e : Entry) → e.locked ≡ true → {strand at word : ℕ} → (partition u.registers strand ≡ e.partition → ⊥)
-    → Removes u side e (command.Insert strand at 0 word) → ⊥
-miss-spared u side e locked far (overlapped p t) = far p
-miss-spared u side e locked far (displaced full apart t) = lock-held u side e locked t
-
-no-strand : (l : Ledger) (strand side : ℕ) (of_zero of_other : List ℕ) → leb strand 3 ≡ false → miss l strand side of_zero of_other ≡ refused 5
-unfolding miss miss_questions first_no
-no-strand l strand side of_zero of_other e = rw e
-
--- ---- one act, and what it leaves for the others
-named-first : (a : Act) (acts : List Act) (strand : ℕ) → strand < 4 → named_by strand a ≡ true → Named (a ∷ acts) strand
+-- ---- a list of commands
+named-first : (c : Command) (cs : List Command) (strand : ℕ) → strand < 4 → names strand c ≡ true → Named (c ∷ cs) strand
 unfolding count
-named-first a acts strand s t = record { strands = s; named = rw (how_many_lem (named_by strand) (a ∷ acts)) (omega (arith, ap tick t)) }
+named-first c cs strand s t = record { strands = s; named = rw (how_many_lem (names strand) (c ∷ cs)) (omega (arith, ap tick t)) }
 
-named-later : (a : Act) (acts : List Act) (strand : ℕ) → Named acts strand → Named (a ∷ acts) strand
+named-later : (c : Command) (cs : List Command) (strand : ℕ) → Named cs strand → Named (c ∷ cs) strand
 unfolding count
-named-later a acts strand x =
-    record { strands = x.strands; named = rw (how_many_lem (named_by strand) (a ∷ acts)) (omega (arith, how_many_lem (named_by strand) acts, x.named)) }
+named-later c cs strand x = record { strands = x.strands; named = rw (how_many_lem (names strand) (c ∷ cs)) (omega (arith, how_many_lem (names strand) cs, x.named)) }
 
-module _ (n : Counts) (k : Reference) (g : ReferenceGood (slot_count n) k) where
-  abbrev u : State
-  u = state_for n k g
+-- one command, and what it leaves for the others
+module _ {n : Counts} {u : State} {k : Reference} (h : ReferenceAlike n u k) (c : Command) (cs : List Command) where
+  abbrev next : Reference
+  next = reference_next false (slot_count n) k c
 
-  alike : ReferenceAlike n u k
-  alike = good-alike n k g
+  next-alike : ReferenceAlike n (step false u c).state next
+  next-alike = rw (own-next h false c) at (step-says false n u k c h).alike
 
-  lives : (side : ℕ) (e : Entry) → side < 2 → Live e (k.ledger.entries side) → LivesIn (side_of u side) e
-  lives side e b = live-lives (alike-side side b alike.ledger) e
+  stays : Guests k.ledger (c ∷ cs) → (number : ℕ) → number ≤ 5 → guest_writes number ≡ false → (strand : ℕ)
+      → next.ledger.registers strand number ≡ k.ledger.registers strand number
+  stays g number small own strand =
+      command-stays (slot_count n) k.ledger strand number small own c (displaced_name k c) (λ s b m. g s (named-first c cs s b m))
 
-  act-good : (a : Act) → ReferenceGood (slot_count n) (act_next (slot_count n) k a)
-  act-good (sent c) = (told n).kept false k c g
-  act-good (served strand side of_zero of_other) = (told n).missed k strand side of_zero of_other g
+  next-live : (side : ℕ) (e : Entry) → side < 2 → Live e (k.ledger.entries side) → e.locked ≡ true
+      → ((strand : ℕ) → Named (c ∷ cs) strand → k.ledger.registers strand 0 ≡ e.partition → ⊥) → Live e (next.ledger.entries side)
+  next-live side e b l t far =
+      let far-off : Strangers u side e t c = λ strand s m p. far strand (named-first c cs strand s m) (h.ledger.registers strand 0 s (omega arith) ∙ p) in
+      lives-live (alike-side side b next-alike.ledger) e
+      (⊎_elim (λ y. y) (λ y. absurd (spared u side e t y.1 y.0 far-off))
+      (framed.by_command false n u c side e (alike-sound n u k.ledger h.ledger) b (live-lives (alike-side side b h.ledger) e l)))
 
-  -- registers that mode 1 may not write
-  stays : (a : Act) → ((strand : ℕ) → strand < 4 → named_by strand a ≡ true → k.ledger.registers strand 3 ≤ 1)
-      → (number : ℕ) → number ≤ 5 → guest_writes number ≡ false → (strand : ℕ)
-      → (act_next (slot_count n) k a).ledger.registers strand number ≡ k.ledger.registers strand number
-  stays (sent c) m number small own strand = command-stays (slot_count n) k.ledger strand number small own c (displaced_name k c) m
-  stays (served at side of_zero of_other) m number small own strand =
-      ((extent n).miss k at side of_zero of_other strand (suc side) (other-side side)).registers number small
-
-  -- a locked entry of another partition
-  lasts : (a : Act) (side : ℕ) (e : Entry) → side < 2 → Live e (k.ledger.entries side) → e.locked ≡ true
-      → ((strand : ℕ) → strand < 4 → named_by strand a ≡ true → k.ledger.registers strand 0 ≡ e.partition → ⊥)
-      → Live e ((act_next (slot_count n) k a).ledger.entries side)
-  lasts (sent c) side e b l t far =
-      let after : ReferenceAlike n (step false u c).state (reference_next false (slot_count n) k c) =
-      rw (own-next alike false c) at (step-says false n u k c alike).alike in
-      lives-live (alike-side side b after.ledger) e
-      (⊎_elim (λ y. y) (λ y. absurd (spared u side e t y.1 y.0 (λ strand s m p. far strand s m (alike.ledger.registers strand 0 s (omega arith) ∙ p))))
-      (framed.by_command false n u c side e (alike-sound n u k.ledger alike.ledger) b (lives side e b l)))
-  lasts (served at d of_zero of_other) side e b l t far = by-test (leb at 3)
-      (λ f.
-      let s : at < 4 = omega (arith, leb-true at 3 f) in
-      lives-live (alike-side side b (miss_next_lem n k g at d of_zero of_other).ledger) e
-      (⊎_elim (λ y. y) (λ y. absurd (miss-spared u side e t (λ p. far at s (eqb-self at) (alike.ledger.registers at 0 s (omega arith) ∙ p)) y.2))
-      (framed.by_miss n u at d of_zero of_other side e (alike-sound n u k.ledger alike.ledger) b (lives side e b l))))
-      (λ f. rw (no-strand k.ledger at d of_zero of_other f) l)
-
--- ---- a list of acts
-acts-good : (n : Counts) (k : Reference) (acts : List Act) → ReferenceGood (slot_count n) k → ReferenceGood (slot_count n) (acts_after (slot_count n) k acts)
-unfolding acts_after
-acts-good n k [] g = g
-acts-good n k (a ∷ acts) g = acts-good n (act_next (slot_count n) k a) acts (act-good n k g a)
-
-confined : (n : Counts) (k : Reference) (acts : List Act) → ReferenceGood (slot_count n) k → Guests k.ledger acts
-    → Confined k.ledger acts (acts_after (slot_count n) k acts).ledger
-unfolding acts_after
-confined n k [] g x =
+confined : (n : Counts) (u : State) (k : Reference) (cs : List Command) → ReferenceAlike n u k → Guests k.ledger cs
+    → Confined k.ledger cs (reference_after false (slot_count n) k cs).ledger
+unfolding reference_after
+confined n u k [] h g =
     record { partitions = λ strand. refl; modes = λ strand. refl; translations = λ strand. refl; locked = λ side e b l t far. l }
-confined n k (a ∷ acts) g x =
-    let still = stays n k g a (λ strand s m. x strand (named-first a acts strand s m)) in
-    let partitions = still 0 (omega arith) refl in
-    let modes = still 3 (omega arith) refl in
-    let r = confined n (act_next (slot_count n) k a) acts (act-good n k g a) (λ strand y. rw (modes strand) (x strand (named-later a acts strand y))) in
+confined n u k (c ∷ cs) h g =
+    let partitions = stays h c cs g 0 (omega arith) refl in
+    let modes = stays h c cs g 3 (omega arith) refl in
+    let r = confined n (step false u c).state (next h c cs) cs (next-alike h c cs) (λ strand x. rw (modes strand) (g strand (named-later c cs strand x))) in
     record {
       partitions = λ strand. r.partitions strand ∙ partitions strand;
       modes = λ strand. r.modes strand ∙ modes strand;
-      translations = λ strand. r.translations strand ∙ still 4 (omega arith) refl strand;
+      translations = λ strand. r.translations strand ∙ stays h c cs g 4 (omega arith) refl strand;
       locked = λ side e b l t far.
-          r.locked side e b (lasts n k g a side e b l t (λ strand s m. far strand (named-first a acts strand s m))) t
-          (λ strand y p. far strand (named-later a acts strand y) (sym (partitions strand) ∙ p));
+          r.locked side e b (next-live h c cs side e b l t far) t (λ strand x p. far strand (named-later c cs strand x) (sym (partitions strand) ∙ p));
     }
 
--- ---- a list of runs and served misses
-after-append : (n : ℕ → ℕ) (k : Reference) (cs : List Command) (acts : List Act)
-    → acts_after n (reference_after false n k cs) acts ≡ acts_after n k (map sent cs ++ acts)
-unfolding reference_after acts_after
-after-append n k [] acts = refl
-after-append n k (c ∷ cs) acts = after-append n (reference_next false n k c) cs acts
+-- ---- a list of runs
+after-append : (n : ℕ → ℕ) (k : Reference) (cs ds : List Command)
+    → reference_after false n (reference_after false n k cs) ds ≡ reference_after false n k (cs ++ ds)
+unfolding reference_after
+after-append n k [] ds = refl
+after-append n k (c ∷ cs) ds = after-append n (reference_next false n k c) cs ds
 
 module _ (n : Counts) where
-  unsound-stays : {words last : List ℕ} {acts : List Act} → Unmarked (slot_count n) words acts last → (GoodWords (slot_count n) words → ⊥) → last ≡ words
+  unsound-stays : {words last : List ℕ} {cs : List Command} → Unmarked (slot_count n) words cs last → (GoodWords (slot_count n) words → ⊥) → last ≡ words
   unsound-stays none bad = refl
   unsound-stays (run r x rest) bad =
       let same = (r.unsound bad).0 in
       unsound-stays rest (rw same bad) ∙ same
-  unsound-stays (serve r rest) bad =
-      let same = (r.unsound bad).0 in
-      unsound-stays rest (rw same bad) ∙ same
 
-  words-after : {words last : List ℕ} {acts : List Act} → Unmarked (slot_count n) words acts last → (k : Reference) → ReferenceGood (slot_count n) k
-      → words ≡ reference_words k → last ≡ reference_words (acts_after (slot_count n) k acts)
-  unfolding acts_after
+  words-after : {words last : List ℕ} {cs : List Command} → Unmarked (slot_count n) words cs last → (k : Reference) → ReferenceGood (slot_count n) k
+      → words ≡ reference_words k → last ≡ reference_words (reference_after false (slot_count n) k cs)
+  unfolding reference_after
   words-after none k g e = e
-  words-after (run {acts} {input} {output} {t} r x rest) k g e =
-      rw (← (after-append (slot_count n) k t.commands acts)) (words-after rest _ (after-good n k g false input output t x) (r.sound k g e t x).words)
-  words-after (serve {strand} {side} {of_zero} {of_other} r rest) k g e =
-      words-after rest _ ((told n).missed k strand side of_zero of_other g) (r.sound k g e).words
+  words-after (run {cs} {input} {output} {t} r x rest) k g e =
+      rw (← (after-append (slot_count n) k t.commands cs)) (words-after rest _ (after-good n k g false input output t x) (r.sound k g e t x).words)
 
   pub guests-confined : GuestsConfined (slot_count n)
   guests-confined = record {
     unsound = unsound-stays;
-    sound = λ {words} {last} {acts} x k g e. (words-after x k g e, acts-good n k acts g);
-    confined = λ k g acts x. confined n k acts g x;
+    sound = λ {words} {last} {cs} x k g e. (words-after x k g e, confined n (state_for n k g) k cs (good-alike n k g));
   }
 
 pub guests-sold : GuestsConfined slots
 guests-sold = rw both-sides at (guests-confined counts)
-
--- ---- the stream's mark
-others-alike : (hv : Bool) (l : Ledger) (c : Command) → is_invalidation c ≡ false → questions hv l c ≡ questions false l c
-unfolding is_invalidation questions
-others-alike hv l (command.Write strand number value) e = refl
-others-alike hv l (command.Insert strand side flags word) e = refl
-others-alike hv l (command.DemapPage strand side selector flags address) e = refl
-others-alike hv l (command.DemapContext strand side selector) e = refl
-others-alike hv l (command.DemapAll strand side) e = refl
-others-alike hv l (command.Invalidate side) e = clash refl e
-others-alike hv l (command.Access strand kind selector size address) e = refl
-others-alike hv l (command.Read strand number) e = refl
-others-alike hv l (command.Pointers strand side) e = refl
-others-alike hv l (command.Rate strand side) e = refl
-
-pub mark-alone : MarkAlone
-mark-alone = record { others = others-alike }

@@ -31,5 +31,4 @@ pub mod Demand2
 pub mod Frame
 pub mod Lookups
 pub mod Guests
-pub mod Host
 pub mod Format

@@ -1,13 +1,13 @@
 -- A miss and its tables: the unit's questions, place and fit are the ledger's. Assumes nothing.
 use Prim.Native.Nat.{ℕ, ◌+◌, ◌*◌, ◌-◌, ◌/◌, ◌%◌, ◌^◌, ◌≤◌, ◌<◌}
-use mathlib.Core.Path.{◌≡◌, refl, sym, ap, ◌∙◌}
+use mathlib.Core.Path.{◌≡◌, refl, sym, ◌∙◌}
 use mathlib.Core.Bool.{true, cond, ◌&&◌}
 use mathlib.Core.List.{List}
 use native.Mathlib.Omega.{arith}
 use native.Mathlib.Nat.{mod-lt, mod-eq_of_lt, add_assoc, add-zero}
 use lib.Dec.{eqb}
 use lib.ListN.{length, take, drop, length-drop}
-use lib.Seq.{get_or-drop, drop-drop, take-take}
+use lib.Seq.{get_or-drop, drop-drop}
 use lib.Pow.{pow-add, pow_pos, pow_mono}
 use borrow.Author.Tests.{eqb-true, eq-eqb, ne_eqb, ltb-true}
 use Rattle.laws.specs.Tests.{all_of}
@@ -21,7 +21,7 @@ use Rattle.machine.specs.Questions.{refusal_number, ask, kind_side}
 use Rattle.machine.specs.Access.{Stepped, stepped}
 use Rattle.machine.specs.Step.{insert_step}
 use Rattle.machine.specs.Stream.{Bytes, eight}
-use Rattle.machine.specs.Serve.{is_zero_context, table_used, table_length, entry_start, asked_table, tag_fits, word_fits, entry_fits, serve_by, serve, part_by}
+use Rattle.machine.specs.Serve.{table_used, table_length, entry_start, asked_table, tag_fits, word_fits, entry_fits, serve_by, serve, part_by}
 use Rattle.machine.specs.Ledger.{Ledger, value_from, first_no, pointer_of, base_of, configuration_of, table_for, table_bytes, miss_code}
 use Rattle.machine.specs.Ledger.{entry_place, miss_questions, tag_agrees, word_agrees, Miss, refused, absent, present, miss_in, miss}
 use Rattle.machine.specs.Reference.{Hands}
@@ -32,7 +32,6 @@ use Rattle.machine.specs.declared.Answer.TheVariants as answer
 use Rattle.machine.proofs.Sides.{code_bytes_lem}
 use Rattle.machine.proofs.State.{configuration-listed, kind_side_lem, ask-fine}
 use Rattle.machine.proofs.Readable.{front, front-take}
-use Rattle.machine.proofs.Record.{drop-take}
 use Rattle.machine.proofs.Alike.{Alike}
 use Rattle.machine.proofs.Questions.{at_most, round-down, live-word, tag_access_lem, verdict_number, refusal-positive, InStep, next, done, first_no_lem}
 
@@ -92,13 +91,6 @@ eight-from s at h =
     let r : Bytes = drop at s in
     let e : take 8 r ≡ front r 0 8 = sym (front-take r 8 (rw length-drop (omega arith))) in
     eight-drop s at ∙ rw e (omega arith)
-
--- the first eight of sixteen bytes, and the last
-front-16 : (s : Bytes) → take 8 (take 16 s) ≡ take 8 s
-front-16 s = take-take 8 16 s (omega arith)
-
-back-16 : (s : Bytes) → take 8 (drop 8 (take 16 s)) ≡ take 8 (drop 8 s)
-back-16 s = ap (take 8) (drop-take 8 8 s) ∙ take-take 8 8 (drop 8 s) (omega arith)
 
 -- ---- the registers of a state and a ledger that are alike
 module _ {n : Counts} {u : State} {l : Ledger} (a : Alike n u l) (strand side : ℕ) (s : strand < 4) (d : side < 2) where
@@ -166,12 +158,12 @@ module _ {n : Counts} {u : State} {l : Ledger} (a : Alike n u l) (strand side : 
   -- the entry, where the table has its length
   miss_in_lem : (t : Bytes) → length t ≡ table_length file strand side →
       let at : ℕ = entry_start file strand side in
-      miss_in l strand side (take 16 (drop at t)) ≡ cond (entry_fits file strand side (eight t at) (eight t (at + 8))) (present (eight t (at + 8))) absent
+      miss_in l strand side (drop at t) ≡ cond (entry_fits file strand side (eight t at) (eight t (at + 8))) (present (eight t (at + 8))) absent
   unfolding miss_in
   miss_in_lem t h =
       let at : ℕ = entry_start file strand side in
       let room : at + 16 ≤ length t = rw h (entry-within _ _ _) in
-      rw (front-16, back-16, drop-drop, ← (eight-from t at (omega arith)), ← (eight-from t (at + 8) (omega arith)), fit-alike)
+      rw (drop-drop, ← (eight-from t at (omega arith)), ← (eight-from t (at + 8) (omega arith)), fit-alike)
 
 -- ---- what 5, 6 and 14 let pass
 pub record TableLent (u : State) (strand side : ℕ) (of_zero of_other : Bytes) : Type 0 where
@@ -244,7 +236,6 @@ module _ {n : Counts} {u : State} {l : Ledger} (a : Alike n u l) (strand side : 
         refused = λ _. (refl, refl, refl);
         handed = λ z. absurd (refusal-positive r z);
         within = λ z. absurd (refusal-positive r z);
-        bytes = λ z. absurd (refusal-positive r z);
       }
       go Passed e =
           let t = table-lent u strand side of_zero of_other e in
@@ -253,6 +244,4 @@ module _ {n : Counts} {u : State} {l : Ledger} (a : Alike n u l) (strand side : 
             refused = λ z. absurd (z refl);
             handed = λ _. (rw (tag_access_lem a strand t.strands side t.sides), sym (start-alike a strand side t.strands t.sides), refl);
             within = λ _. rw (table-alike a strand side t.strands t.sides of_zero of_other, t.size) (entry-within _ _ _);
-            bytes = λ _. rw (table-alike a strand side t.strands t.sides of_zero of_other, start-alike a strand side t.strands t.sides)
-                (by-test (is_zero_context u.registers strand side) (λ z. rw z) (λ z. rw z));
           }

@@ -16,7 +16,7 @@ use Rattle.machine.specs.Pages.{in_range, listed, page_size, page_start}
 use Rattle.machine.specs.Words.{bits, word_sound, word_insertable}
 use Rattle.machine.specs.Slots.{no_slot}
 use Rattle.machine.specs.Insertion.{entry_of, candidate, has_slot}
-use Rattle.machine.specs.Permission.{guest_writable, least_mode}
+use Rattle.machine.specs.Permission.{guest_writable, least_mode, permitted}
 use Rattle.machine.specs.Registers.{register, with_register, partition, mode, selected, tag_access, tag_address}
 use Rattle.machine.specs.Registers.{tag_context, base_number, configuration_number, known, writable, base_allowed}
 use Rattle.machine.specs.Registers.{configuration_allowed, allowed, reset_registers, reset_strands}
@@ -349,7 +349,7 @@ module _ {n : Counts} {u : State} {l : Ledger} (a : Alike n u l) where
       next (ap address_good (tag_address_lem a strand s side d) ∙ address_good_lem _) (λ _. next (word_insertable_lem word) (λ _. slot))
 
   in_step : (hv : Bool) (c : Command) → InStep (slot_left u c) (asked hv u c) (questions hv l c)
-  unfolding asked questions
+  unfolding asked questions permitted
   in_step hv (command.Write strand number value) =
       next (at_most strand 3) (λ s. next (register_writable_lem number) (λ w. next (value_good_lem number value (writable-known number w)) (λ _.
       next (allows a strand (ltb-true _ _ s) (guest_writes_lem number)) (λ _. done refl))))

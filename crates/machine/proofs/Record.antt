@@ -103,7 +103,7 @@ unfolding pushed outcomes_word
 pushed-outcomes xs b = rw (outcomes-low 63 xs) (omega arith)
 
 module _ {A : Type 0} where
-  pub drop-take : (k m : ℕ) (l : List A) → drop k (take (k + m) l) ≡ take m (drop k l)
+  drop-take : (k m : ℕ) (l : List A) → drop k (take (k + m) l) ≡ take m (drop k l)
   drop-take zero m l = rw zero-add
   drop-take (suc k) m [] = rw suc-add (sym (take-nil m))
   drop-take (suc k) m (x ∷ l) = rw suc-add (drop-take k m l)

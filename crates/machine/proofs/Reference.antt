@@ -22,8 +22,7 @@ use Rattle.machine.specs.Format.{Reading, ReadAs}
 use Rattle.machine.specs.Demand3.{unit_bytes, fed_next, fed_after, ledger_bytes, InsertionSays, MissSays, Event, run, serve}
 use Rattle.machine.specs.Good.{ReferenceGood}
 use Rattle.machine.specs.Reference.{name_of, displaced_name, reference_next, reference_after, reference_bytes, Leaves}
-use Rattle.machine.specs.Reference.{miss_name, miss_next, ServeLeaves, Hands, RunTold, ServeTold, PartTold, ResetTold}
-use Rattle.machine.specs.Told.{returned, EventsTold, Told}
+use Rattle.machine.specs.Reference.{miss_name, miss_next, ServeLeaves, Hands, RunTold, ServeTold, PartTold, ResetTold, returned, EventsTold, Told}
 use Rattle.machine.specs.declared.Command.{Command}
 use Rattle.machine.specs.declared.Command.TheVariants as command
 use Rattle.machine.proofs.State.{reset-sound, sound-encode, words_sound_lem}
@@ -139,7 +138,7 @@ module _ (n : Counts) (k : Reference) (g : ReferenceGood (slot_count n) k) where
         ≡ serves (slot_count n) k.ledger strand side (miss k.ledger strand side of_zero of_other) (miss_name k side)
     own-miss = own-served n k strand side (miss k.ledger strand side of_zero of_other) _ served.says.says
 
-    pub miss_next_lem : ReferenceAlike n (unit.serve u strand side of_zero of_other).state (miss_next (slot_count n) k strand side of_zero of_other)
+    miss_next_lem : ReferenceAlike n (unit.serve u strand side of_zero of_other).state (miss_next (slot_count n) k strand side of_zero of_other)
     miss_next_lem = rw own-miss at served.alike
 
     serve-leaves :

@@ -25,8 +25,9 @@ use Rattle.machine.specs.Slots.{with_used, without_used, set_used}
 use Rattle.machine.specs.Insertion.{overlaps, removed, removes, is_empty, candidate, inserted, placed, has_slot}
 use Rattle.machine.specs.Sound.{slot_sound, side_sound}
 use Rattle.machine.specs.Questions.{key_of}
-use Rattle.machine.specs.Ledger.{Entry, Ledger, Live, Name, code_bytes, page_bytes, reaches, overlap, unlocked, is_of, is_at}
+use Rattle.machine.specs.Ledger.{Entry, Ledger, Name, code_bytes, page_bytes, reaches, overlap, unlocked, is_of, is_at}
 use Rattle.machine.specs.Ledger.{in_context, in_partition, is_named, lacks_slot, inserts, answers, with_entries, line}
+use Rattle.machine.specs.Demand3.{Live}
 use Rattle.machine.specs.Frame.{entry_in}
 use Rattle.machine.specs.declared.VirtualAddress.{VirtualAddress}
 use Rattle.machine.specs.declared.Slot.{Slot}

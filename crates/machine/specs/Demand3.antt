@@ -8,7 +8,7 @@ use Rattle.machine.specs.Step.{step}
 use Rattle.machine.specs.Stream.{Bytes, answer_bytes, run_of}
 use Rattle.machine.specs.Serve.{served_of}
 use Rattle.machine.specs.Views.{View, insertion, access, other, view}
-use Rattle.machine.specs.Ledger.{Entry, Ledger, Live, overlap, unlocked, line, Written, name_in, is_named, new_entry}
+use Rattle.machine.specs.Ledger.{Entry, Ledger, overlap, unlocked, line, Written, name_in, is_named, new_entry}
 use Rattle.machine.specs.Ledger.{first_no, questions, Asked, used_address, asked_side, looks_up, found_by, misses}
 use Rattle.machine.specs.Ledger.{hits, enters, insertion_questions, Miss, refused, absent, present, miss, serves}
 use Rattle.machine.specs.Places.{Place, Reference, displaced_from, reference_told, miss_told, reference_start, reference_words}
@@ -38,6 +38,10 @@ ledger_bytes hv n u k [] = []
 ledger_bytes hv n u k (c ∷ cs) = (fed hv n u k c).bytes ++ ledger_bytes hv n (step hv u c).state (fed_next hv n u k c) cs
 
 -- ---- one command
+-- live: in the ledger's list of the side just before the command
+abbrev pub Live : Entry → List Entry → Type 0
+Live e m = (i : ℕ) × (i < length m) × (get_or m i e ≡ e)
+
 -- an insertion that neither 1 to 12 nor 16 refuses: s are the places, m was live, e is new, b the unit's answer
 pub record InsertionSays (n : ℕ) (s : List Place) (m : List Entry) (e : Entry) (b : Bytes) : Type 0 where
   -- it names a displaced entry just where every slot was taken, none overlapped, and an entry was unlocked

@@ -2,9 +2,10 @@
 -- Assumes nothing.
 use Rattle.std.specs.Prelude.{ℕ, ◌+◌, ◌-◌, ◌/◌, ◌%◌, ◌^◌, ◌≤◌, ◌<◌, ◌≡◌, Bool, true, false, ◌&&◌, List, eqb, leb}
 use Rattle.laws.specs.Passing.{none_passes}
+use Rattle.machine.specs.State.{Counts, slot_count}
+use Rattle.machine.specs.Stream.{Bytes}
 use Rattle.machine.specs.Ledger.{Ledger, code_bytes, line, Asked, asked_side, accesses}
 use Rattle.machine.specs.Places.{Reference}
-use Rattle.machine.specs.Format.{Bytes}
 use Rattle.machine.specs.Good.{ReferenceGood}
 use Rattle.machine.specs.Reference.{reference_after, miss_next}
 use Rattle.machine.specs.declared.Command.{Command}
@@ -28,11 +29,10 @@ disturbs strand side (command.Read s number) = false
 disturbs strand side (command.Pointers s k) = false
 disturbs strand side (command.Rate s k) = false
 
--- n is the slot count of each side
-pub record Extent (n : ℕ → ℕ) : Type 0 where
+pub record Extent (n : Counts) : Type 0 where
   -- an access was answered with a physical address and a page's size code. Then every aligned address in the page of that size around it gets, by the same
   -- strand, kind and selector, the same bytes, with the physical address at its own offset
-  pub page : (k : Reference) → ReferenceGood n k → (q : Asked) → q.strand < 4 → q.selector < 3
+  pub page : (k : Reference) → ReferenceGood (slot_count n) k → (q : Asked) → q.strand < 4 → q.selector < 3
       → (attributes code address : ℕ) → address < 2 ^ 64 → (accesses k.ledger q).bytes ≡ line 1 attributes 0 code address 0 → (code ≡ 15 → ⊥)
       → (after : Ledger) → Undisturbed q.strand (asked_side q) k.ledger after
       → (size used : ℕ) → used % 2 ^ size ≡ 0 → used / code_bytes code ≡ q.used / code_bytes code
@@ -40,7 +40,7 @@ pub record Extent (n : ℕ → ℕ) : Type 0 where
       ≡ line 1 attributes 0 code (address - q.used % code_bytes code + used % code_bytes code) 0
   -- so it is for as long as no command disturbs it
   pub commands : (hv : Bool) (k : Reference) (cs : List Command) (strand side : ℕ) → none_passes (disturbs strand side) cs ≡ true
-      → Undisturbed strand side k.ledger (reference_after hv n k cs).ledger
+      → Undisturbed strand side k.ledger (reference_after hv (slot_count n) k cs).ledger
   -- and no miss is served on the side
   pub miss : (k : Reference) (at served : ℕ) (of_zero of_other : Bytes) (strand side : ℕ) → eqb served side ≡ false
-      → Undisturbed strand side k.ledger (miss_next n k at served of_zero of_other).ledger
+      → Undisturbed strand side k.ledger (miss_next (slot_count n) k at served of_zero of_other).ledger

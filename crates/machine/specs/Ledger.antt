@@ -1,7 +1,7 @@
 -- Document 01, "The ledger": the plain machine of demand 3, a text of its own, with the misses that it serves (document 02, U1). With the unit it
 -- shares the type of a decoded command and the kit's library (lists, booleans, comparisons); its own list functions are in laws/specs/Passing.
 -- Assumes nothing.
-use Rattle.std.specs.Prelude.{ℕ, zero, suc, ◌+◌, ◌*◌, ◌-◌, ◌/◌, ◌%◌, ◌^◌, ◌<◌, ◌≡◌, Bool, true, false, not, cond, ◌&&◌, ◌||◌, List, [], ◌∷◌, ◌++◌, eqb, leb, ltb, length, get_or, take, drop}
+use Rattle.std.specs.Prelude.{ℕ, zero, suc, ◌+◌, ◌*◌, ◌-◌, ◌/◌, ◌%◌, ◌^◌, Bool, true, false, not, cond, ◌&&◌, ◌||◌, List, [], ◌∷◌, ◌++◌, eqb, leb, ltb, length, get_or, take, drop}
 use Rattle.std.specs.Bool.{beq}
 use Rattle.std.proofs.Math.Option.{Option, none, some}
 use Rattle.laws.specs.Passing.{how_many, none_passes, without, find}
@@ -23,10 +23,6 @@ pub record Ledger : Type 0 where
   pub registers : ℕ → ℕ → ℕ
   pub entries : ℕ → List Entry
   pub lookups : ℕ → ℕ → List Bool
-
--- live on a side: in its list
-abbrev pub Live : Entry → List Entry → Type 0
-Live e m = (i : ℕ) × (i < length m) × (get_or m i e ≡ e)
 
 -- as reset leaves it: mode 2, all other registers 0, no entries, no lookups
 abbrev pub start : Ledger
@@ -427,10 +423,6 @@ entry_place l strand side =
     let tag : ℕ = tag_of l strand side in
     pointer_of (base_of l strand side 0 % 16) (miss_code l strand side) (tag - tag % 8192)
 
--- the 16 bytes that stand there
-abbrev pub table_entry : Ledger → ℕ → ℕ → List ℕ → List ℕ → List ℕ
-table_entry l strand side of_zero of_other = take 16 (drop (entry_place l strand side) (table_for l strand side of_zero of_other))
-
 -- 5, 6 and 14; they are all that handing back asks
 unfoldable pub miss_questions : Ledger → ℕ → ℕ → List ℕ → List ℕ → List (ℕ × Bool)
 miss_questions l strand side of_zero of_other =
@@ -454,7 +446,7 @@ pub data Miss : Type 0 where
   absent : Miss
   present : ℕ → Miss
 
--- of the bytes of an entry: its tag, then its word
+-- of the entry that stands first in the bytes
 unfoldable pub miss_in : Ledger → ℕ → ℕ → List ℕ → Miss
 miss_in l strand side entry =
     let word : ℕ = value_from 0 (take 8 (drop 8 entry)) in
@@ -463,7 +455,7 @@ miss_in l strand side entry =
 unfoldable pub miss : Ledger → ℕ → ℕ → List ℕ → List ℕ → Miss
 miss l strand side of_zero of_other =
     let number : ℕ = first_no (miss_questions l strand side of_zero of_other) in
-    cond (eqb number 0) (miss_in l strand side (table_entry l strand side of_zero of_other)) (refused number)
+    cond (eqb number 0) (miss_in l strand side (drop (entry_place l strand side) (table_for l strand side of_zero of_other))) (refused number)
 
 -- an insertion from 11 on
 unfoldable pub enters_insertion : (ℕ → ℕ) → Ledger → ℕ → ℕ → ℕ → ℕ → Name → Written

@@ -4,7 +4,7 @@ use Rattle.std.specs.Prelude.{ℕ, ◌%◌, ◌/◌, Bool, true, false, not, con
 use Rattle.machine.specs.Pages.{in_range, untranslated}
 use Rattle.machine.specs.Words.{word_insertable}
 use Rattle.machine.specs.Registers.{partition, mode, tag_access, tag_address, tag_context, known, writable, allowed}
-use Rattle.machine.specs.Permission.{guest_writable, permitted}
+use Rattle.machine.specs.Permission.{permitted}
 use Rattle.machine.specs.Insertion.{entry_of, candidate, has_slot}
 use Rattle.machine.specs.Record.{Records, record_of, kept}
 use Rattle.machine.specs.State.{State, side_of}
@@ -88,43 +88,41 @@ asked_insertion u strand side flags word =
     ∷ question refusal.NoSlot (has_slot candidate (insertion u strand side flags word) (side_of u side))
     ∷ []
 
--- 16 stands behind 10 and before 11 (document 02, U6). Every command that names a strand asks whether its mode permits it, but for an access and a read, which
--- every mode may send; of an insertion a guest may send the virtual and unlocked one, without a flag. hv, here and wherever a run's commands are taken: the
--- caller marks the stream as the hypervisor's
+-- 16 stands behind 10 and before 11 (document 02, U6); an access and a read are open to every mode, and are not asked it
 unfoldable pub asked : Bool → State → Command → List Question
 asked hv u (command.Write strand number value) =
     question refusal.Strand (ltb strand 4)
     ∷ question refusal.Register (writable number)
     ∷ question refusal.Value (allowed number value)
-    ∷ question refusal.Permission (permitted u.registers strand (guest_writable number))
+    ∷ question refusal.Permission (permitted hv u.registers (command.Write strand number value))
     ∷ []
 asked hv u (command.Insert strand side flags word) =
     question refusal.Strand (ltb strand 4)
     ∷ question refusal.Side (ltb side 2)
     ∷ question refusal.Operand (ltb flags 4)
-    ∷ question refusal.Permission (permitted u.registers strand (eqb flags 0))
+    ∷ question refusal.Permission (permitted hv u.registers (command.Insert strand side flags word))
     ∷ asked_insertion u strand side flags word
 asked hv u (command.DemapPage strand side selector flags address) =
     question refusal.Strand (ltb strand 4)
     ∷ question refusal.Side (ltb side 2)
     ∷ question refusal.Selector (selector_fits side selector)
     ∷ question refusal.Operand (ltb flags 2)
-    ∷ question refusal.Permission (permitted u.registers strand true)
+    ∷ question refusal.Permission (permitted hv u.registers (command.DemapPage strand side selector flags address))
     ∷ question refusal.Address (in_range address.0)
     ∷ []
 asked hv u (command.DemapContext strand side selector) =
     question refusal.Strand (ltb strand 4)
     ∷ question refusal.Side (ltb side 2)
     ∷ question refusal.Selector (selector_fits side selector)
-    ∷ question refusal.Permission (permitted u.registers strand true)
+    ∷ question refusal.Permission (permitted hv u.registers (command.DemapContext strand side selector))
     ∷ []
 asked hv u (command.DemapAll strand side) =
     question refusal.Strand (ltb strand 4)
     ∷ question refusal.Side (ltb side 2)
-    ∷ question refusal.Permission (permitted u.registers strand false)
+    ∷ question refusal.Permission (permitted hv u.registers (command.DemapAll strand side))
     ∷ []
 asked hv u (command.Invalidate side) =
-    question refusal.Side (ltb side 2) ∷ question refusal.Permission hv ∷ []
+    question refusal.Side (ltb side 2) ∷ question refusal.Permission (permitted hv u.registers (command.Invalidate side)) ∷ []
 asked hv u (command.Access strand kind selector size address) =
     question refusal.Strand (ltb strand 4)
     ∷ question refusal.Side (ltb kind 5)
@@ -135,12 +133,12 @@ asked hv u (command.Read strand number) = question refusal.Strand (ltb strand 4)
 asked hv u (command.Pointers strand side) =
     question refusal.Strand (ltb strand 4)
     ∷ question refusal.Side (ltb side 2)
-    ∷ question refusal.Permission (permitted u.registers strand true)
+    ∷ question refusal.Permission (permitted hv u.registers (command.Pointers strand side))
     ∷ []
 asked hv u (command.Rate strand side) =
     question refusal.Strand (ltb strand 4)
     ∷ question refusal.Side (ltb side 2)
-    ∷ question refusal.Permission (permitted u.registers strand true)
+    ∷ question refusal.Permission (permitted hv u.registers (command.Rate strand side))
     ∷ question refusal.NoLookup (has_lookups u.records (record_of strand side))
     ∷ []
 

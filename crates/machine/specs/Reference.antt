@@ -1,12 +1,16 @@
 -- The ledger with its places by itself: fed the bytes of a run or the tables of a miss, and nothing of the unit, it tells every byte of the answers, every
 -- word of the state and the numbers returned. What each call is held to.
 -- Assumes nothing.
-use Rattle.std.specs.Prelude.{ℕ, ◌+◌, ◌*◌, ◌-◌, ◌≤◌, ◌≡◌, Bool, cond, List, [], ◌∷◌, ◌++◌, eqb, length, take, drop}
+use Rattle.std.specs.Prelude.{ℕ, ◌+◌, ◌*◌, ◌-◌, ◌≤◌, ◌≡◌, Bool, List, [], ◌∷◌, ◌++◌, length, drop}
 use Rattle.std.proofs.Math.Option.{Option, none, some}
+use Rattle.machine.specs.State.{Counts, reset_of, reset_number}
+use Rattle.machine.specs.Stream.{Bytes, answer_bytes, Outcome, run_of}
+use Rattle.machine.specs.Serve.{part_of, Served, served_of}
 use Rattle.machine.specs.Views.{View, insertion, access, other, view}
-use Rattle.machine.specs.Ledger.{Entry, Ledger, one_if, Name, line, first_no, enters, set_of, table_for, entry_place, table_entry, miss_questions, miss, serves}
+use Rattle.machine.specs.Ledger.{Entry, Ledger, one_if, Name, line, first_no, enters, set_of, table_for, entry_place, miss_questions, miss, serves}
 use Rattle.machine.specs.Places.{Reference, displaced_from, reference_told, miss_told, reference_start, reference_words}
-use Rattle.machine.specs.Format.{Bytes, Reading, ReadAs}
+use Rattle.machine.specs.Format.{Reading, ReadAs}
+use Rattle.machine.specs.Demand3.{Event, run, serve}
 use Rattle.machine.specs.Good.{ReferenceGood, GoodWords}
 use Rattle.machine.specs.declared.Command.{Command}
 use Rattle.machine.specs.declared.Report.{Report}
@@ -83,8 +87,6 @@ pub record Hands (l : Ledger) (strand side : ℕ) (of_zero of_other : Bytes) (p 
   pub refused : (p.number ≡ 0 → ⊥) → (p.other ≡ 0) × (p.start ≡ 0) × (p.length ≡ 0)
   pub handed : p.number ≡ 0 → (p.other ≡ set_of l strand side) × (p.start ≡ entry_place l strand side) × (p.length ≡ 16)
   pub within : p.number ≡ 0 → p.start + p.length ≤ length (table_for l strand side of_zero of_other)
-  -- and its bytes are those that serving looks at
-  pub bytes : p.number ≡ 0 → take p.length (drop p.start (cond (eqb p.other 0) of_zero of_other)) ≡ table_entry l strand side of_zero of_other
 
 pub record PartTold (n : ℕ → ℕ) (words : List ℕ) (strand side : ℕ) (of_zero of_other : Bytes) (p : Part) : Type 0 where
   pub unsound : (GoodWords n words → ⊥) → p ≡ record { number = 1; other = 0; start = 0; length = 0 }
@@ -95,3 +97,40 @@ pub record PartTold (n : ℕ → ℕ) (words : List ℕ) (strand side : ℕ) (of
 pub record ResetTold (n : ℕ → ℕ) (words left : List ℕ) (number : ℕ) : Type 0 where
   pub reset : length words ≡ length (reference_words (reference_start n)) → (left ≡ reference_words (reference_start n)) × (number ≡ 0)
   pub other : (length words ≡ length (reference_words (reference_start n)) → ⊥) → (left ≡ words) × (number ≡ 1)
+
+-- ---- the unit, by its own counts of slots and by the reference's
+abbrev pub returned : Outcome → Report
+returned o = record { answered = o.answered; taken = o.taken; stop = o.stop }
+
+-- one event, and then what is told of the reference that it leaves
+abbrev pub EventTold : Counts → (ℕ → ℕ) → Reference → Event → (Reference → Type 0) → Type 0
+EventTold c n k (run hv input output) Then =
+    let o : Outcome = run_of hv c (reference_words k) input output in
+    (t : Reading) → ReadAs input (length output) t
+    → Leaves hv n k input output t o.words o.output (returned o) × Then (reference_after hv n k t.commands)
+EventTold c n k (serve strand side of_zero of_other) Then =
+    let o : Served = served_of c (reference_words k) strand side of_zero of_other in
+    ServeLeaves n k strand side of_zero of_other o.words (answer_bytes o.answer) × Then (miss_next n k strand side of_zero of_other)
+
+-- one after the other, each on the words that the last one left
+abbrev pub EventsTold : Counts → (ℕ → ℕ) → Reference → List Event → Type 0
+EventsTold c n k [] = Unit {0}
+EventsTold c n k (e ∷ es) = EventTold c n k e (λ l. EventsTold c n l es)
+
+pub record Told (c : Counts) (n : ℕ → ℕ) : Type 0 where
+  pub reset : (words : List ℕ) → ResetTold n words (reset_of c words) (reset_number c words)
+  pub run : (hv : Bool) (words : List ℕ) (input output : Bytes) →
+      let o : Outcome = run_of hv c words input output in
+      RunTold hv n words input output o.words o.output (returned o)
+  pub serve : (words : List ℕ) (strand side : ℕ) (of_zero of_other : Bytes) →
+      let o : Served = served_of c words strand side of_zero of_other in
+      ServeTold n words strand side of_zero of_other o.words (answer_bytes o.answer)
+  pub part : (words : List ℕ) (strand side : ℕ) (of_zero of_other : Bytes)
+      → PartTold n words strand side of_zero of_other (part_of c words strand side of_zero of_other)
+  -- reset is sound, and so is what a command leaves, and a miss
+  pub start : ReferenceGood n (reference_start n)
+  pub kept : (hv : Bool) (k : Reference) (c : Command) → ReferenceGood n k → ReferenceGood n (reference_next hv n k c)
+  pub missed : (k : Reference) (strand side : ℕ) (of_zero of_other : Bytes) → ReferenceGood n k
+      → ReferenceGood n (miss_next n k strand side of_zero of_other)
+  -- so every list of runs and served misses, from reset and from every sound state
+  pub lists : (k : Reference) → ReferenceGood n k → (es : List Event) → EventsTold c n k es

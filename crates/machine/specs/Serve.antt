@@ -1,6 +1,6 @@
 -- Document 02, U1: a miss served from the guest's TSB. The caller lends it as two tables: of context zero, and of every other context.
 -- Assumes nothing.
-use Rattle.std.specs.Prelude.{ℕ, ◌+◌, ◌*◌, ◌/◌, ◌%◌, ◌^◌, Bool, cond, ◌&&◌, List, [], ◌∷◌, eqb, ltb, length}
+use Rattle.std.specs.Prelude.{ℕ, ◌+◌, ◌*◌, ◌/◌, ◌%◌, ◌^◌, Bool, cond, ◌&&◌, List, [], ◌∷◌, eqb, ltb, length, take, drop}
 use Rattle.machine.specs.Words.{bits}
 use Rattle.machine.specs.Registers.{tag_access, tag_address}
 use Rattle.machine.specs.Tsb.{tsb_offset, miss_context, tsb_base, tsb_code}
@@ -57,6 +57,10 @@ unfoldable pub part_of : Counts → List ℕ → ℕ → ℕ → Bytes → Bytes
 part_of n words strand side of_zero of_other =
     let u : State = state_of n words in
     cond (words_sound n words) (part_by (ask (asked_table u strand side of_zero of_other)) u.registers strand side) (no_part 1)
+
+-- and its bytes
+abbrev pub part_bytes : Part → Bytes → Bytes → Bytes
+part_bytes p of_zero of_other = take p.length (drop p.start (cond (eqb p.other 0) of_zero of_other))
 
 -- ---- whether an entry fits
 -- the tag: the context from bit 48 up, zeros in 47:42, then the address from bit 22 up; of a 256 MB page (code 5) from bit 28 up, and six bits are free

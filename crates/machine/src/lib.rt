@@ -1,5 +1,5 @@
 // What a buyer must believe: the declared types, the definitions in specs/ and the theorems on them.
-ghost use Rattle.std.specs.Prelude.{◌≡◌, ℕ, length};
+ghost use Rattle.std.specs.Prelude.{◌≡◌, length};
 ghost use Rattle.machine.specs.State.{Counts, counts, slot_count};
 ghost use Rattle.machine.specs.Stream.{answer_bytes};
 ghost use Rattle.machine.specs.declared.Answer.{Answer};
@@ -7,17 +7,14 @@ ghost use Rattle.machine.specs.Demand1.{Demand1};
 ghost use Rattle.machine.specs.Demand2.{Demand2};
 ghost use Rattle.machine.specs.Demand3.{Demand3, Described};
 ghost use Rattle.machine.specs.Places.{slots};
-ghost use Rattle.machine.specs.Told.{Told};
+ghost use Rattle.machine.specs.Reference.{Told};
 ghost use Rattle.machine.specs.Frame.{Framed, SoundKept};
 ghost use Rattle.machine.specs.Lookups.{Lookups};
 ghost use Rattle.machine.specs.Examples.{Starred, PrintedRun};
-ghost use Rattle.machine.specs.Format.{Readable};
-ghost use Rattle.machine.specs.Decodes.{Decodes};
+ghost use Rattle.machine.specs.Format.{Readable, Decodes};
 ghost use Rattle.machine.specs.Searches.{Searches};
 ghost use Rattle.machine.specs.Extent.{Extent};
-ghost use Rattle.machine.specs.Guests.{GuestsConfined, MarkAlone};
-ghost use Rattle.machine.specs.Host.{HostTold};
-ghost use Rattle.machine.specs.Runs.{Runs};
+ghost use Rattle.machine.specs.Guests.{GuestsConfined};
 
 use laws::Found;
 
@@ -398,14 +395,11 @@ pub fn answer_width() -> usize
     ensures framed { Framed }
     ensures searches { (n : Counts) → Searches n }
     ensures lookups { Lookups }
-    ensures extent { (n : Counts) → Extent (slot_count n) }
+    ensures extent { (n : Counts) → Extent n }
     ensures guests { (n : Counts) → GuestsConfined (slot_count n) }
-    ensures mark { MarkAlone }
-    ensures host { (n : ℕ → ℕ) → HostTold n }
     ensures decodes { Decodes }
     ensures starred { Starred }
     ensures printed { PrintedRun }
-    ensures runs { Runs }
 {
     ANSWER_BYTES
 }

@@ -9,10 +9,11 @@ use native.Mathlib.Omega.{arith}
 use lib.ListN.{length, take, drop}
 use lib.Pow.{pow_mono}
 use lib.Seq.{get_or-take, get_or-drop}
+use Rattle.laws.proofs.Bools.{by-test}
 use Rattle.machine.specs.State.{counts, state_in, words_sound}
 use Rattle.machine.specs.Questions.{ask}
 use Rattle.machine.specs.Stream.{Bytes, byte, eight}
-use Rattle.machine.specs.Serve.{table_used, entry_start, asked_table}
+use Rattle.machine.specs.Serve.{is_zero_context, table_used, entry_start, asked_table, part_by, part_bytes}
 use Rattle.machine.specs.Serve.{serve_entry, serve, served_as, served_of}
 use Rattle.machine.specs.declared.Refusal.{Refusal}
 use Rattle.machine.specs.declared.Answer.TheVariants as answer
@@ -73,3 +74,8 @@ module _ (words : List ℕ) (strand side : ℕ) (of_zero of_other : Bytes) where
       served_of counts words strand side of_zero of_other ≡ served_as (serve_entry (state_in words) strand side (eight entry 0) (eight entry 8))
   unfolding served_of serve
   served-passed e h = rw (e, h, entry-tag, entry-eight _ _ 8 (omega arith))
+
+-- the part that is handed back of a miss that passed
+pub part-entry : (file : List ℕ) (strand side : ℕ) (of_zero of_other : Bytes)
+    → part_bytes (part_by Passed file strand side) of_zero of_other ≡ entry_bytes file strand side of_zero of_other
+part-entry file strand side of_zero of_other = by-test (is_zero_context file strand side) (λ e. rw e) (λ e. rw e)

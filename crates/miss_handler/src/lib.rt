@@ -3,7 +3,7 @@ ghost use Rattle.std.specs.Prelude.{◌≡◌, cond, ◌%◌, ◌^◌, ◌<◌, 
 ghost use Rattle.machine.specs.Words.{bits};
 ghost use Rattle.machine.specs.State.{counts, state_in};
 ghost use Rattle.machine.specs.Questions.{ask};
-ghost use Rattle.machine.specs.Serve.{table_used, table_n, table_length, entry_start, asked_table, no_part, part_of};
+ghost use Rattle.machine.specs.Serve.{table_used, table_n, table_length, entry_start, asked_table, no_part, part_of, part_bytes};
 ghost use Rattle.machine.specs.Serve.{tag_fits, word_fits, entry_fits, serve_entry, served_of};
 ghost use Rattle.state.specs.Calls.{Lent, SoundIn, Did};
 ghost use Rattle.miss_handler.specs.Ready.{Ready, entry_bytes};
@@ -73,8 +73,8 @@ fn ask_table<'a>(state: &[u64], strand: u8, side: u8, zero: &'a [u8], other: &'a
 
 // ---- handing back
 
-// The 16 bytes of a miss that passed: a part of the table used. Serving reads them; `part_of` tells a caller where they stand.
-fn hand_back<'a>(state: &[u64], strand: u8, side: u8, zero: &'a [u8], other: &'a [u8]) -> &'a [u8]
+// The 16 bytes of a miss that passed: a part of the table used.
+fn entry_of<'a>(state: &[u64], strand: u8, side: u8, zero: &'a [u8], other: &'a [u8]) -> &'a [u8]
     requires { Ready state.now strand side zero.now other.now }
     ensures bytes { result.now ≡ entry_bytes (state_in state.now).registers strand side
         zero.now other.now }
@@ -84,6 +84,27 @@ fn hand_back<'a>(state: &[u64], strand: u8, side: u8, zero: &'a [u8], other: &'a
     let start = entry_start(state, strand, side);
     let end = start + machine::TSB_ENTRY_BYTES;
     &table[start..end]
+}
+
+// The 16 bytes; an empty part where a question refused.
+pub fn hand_back<'a>(
+    state: &[u64],
+    strand: u8,
+    side: u8,
+    zero: &'a [u8],
+    other: &'a [u8],
+) -> &'a [u8]
+    ensures { result.now ≡ part_bytes
+        (part_of counts state.now strand side zero.now other.now)
+        zero.now other.now }
+{
+    if !state::state_sound(state) {
+        return &zero[0..0];
+    }
+    if let Verdict::Refused(_) = ask_table(state, strand, side, zero, other) {
+        return &zero[0..0];
+    }
+    entry_of(state, strand, side, zero, other)
 }
 
 // A number, and nothing.
@@ -98,7 +119,7 @@ fn no_part(number: u8) -> Part
     }
 }
 
-// That part as which table, where in it and how long; or the number of a refusal, and nothing.
+// The same part, as which table, where in it and how long, with the number of a refusal.
 pub fn part_of<'a>(state: &[u64], strand: u8, side: u8, zero: &'a [u8], other: &'a [u8]) -> Part
     ensures { result ≡ part_of counts state.now strand side zero.now other.now }
 {
@@ -183,7 +204,7 @@ pub fn serve<'a>(state: &mut [u64], strand: u8, side: u8, zero: &'a [u8], other:
     if let Verdict::Refused(refusal) = ask_table(state, strand, side, zero, other) {
         return Answer::Refused(refusal);
     }
-    let entry = hand_back(state, strand, side, zero, other);
+    let entry = entry_of(state, strand, side, zero, other);
     let tag = wire::eight_bytes(entry, 0);
     let word = wire::eight_bytes(entry, 8);
     serve_entry(state, strand, side, tag, word)

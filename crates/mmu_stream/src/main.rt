@@ -1,11 +1,7 @@
 // The stream program: at most 4,096 bytes of standard input, run from reset as a stream without the hypervisor's mark. A line for each answer, its 24 bytes in
 // hexadecimal; then a line that starts with `end` and has the three numbers that the run returns, the stop last.
-ghost use Rattle.std.specs.Prelude.{◌≡◌, false, ◌+◌, ◌*◌, ◌<◌, ◌≤◌, length};
-ghost use Rattle.machine.specs.State.{counts, reset_of};
-ghost use Rattle.machine.specs.Stream.{outcome, run_of};
+ghost use Rattle.std.specs.Prelude.{◌≡◌, ◌+◌, ◌*◌, ◌<◌, ◌≤◌, length};
 ghost use Rattle.mmu_stream.specs.Line.{digit_of, line_at, list_of};
-
-use machine::Report;
 
 fn digit(n: u8) -> u8
     requires { n < 16 }
@@ -64,21 +60,13 @@ fn print_end(answered: usize, taken: usize, stop: u8) {
     io::write_all(1, b"\n");
 }
 
-// A run from reset, of a stream without the hypervisor's mark.
-fn run_from_reset(words: &mut [u64], input: &[u8], output: &mut [u8]) -> Report
-    ensures { outcome words.new output.new result
-        ≡ run_of false counts (reset_of counts words.old) input.now output.old }
-{
-    state::reset(words);
-    stream::run(words, input, output, false)
-}
-
 fn main() {
     let mut input = [0u8; 4096];
     let mut output = [0u8; 49152];
     let mut words = [0u64; machine::STATE_WORDS];
     let n = io::read_full(0, &mut input);
-    let ran = run_from_reset(&mut words, &input[..n], &mut output);
+    state::reset(&mut words);
+    let ran = stream::run(&mut words, &input[..n], &mut output, false);
     print_answers(&output, ran.answered);
     print_end(ran.answered, ran.taken, ran.stop);
 }

@@ -1,6 +1,7 @@
 -- What the functions of this crate answer. Assumes nothing.
-use Rattle.std.specs.Prelude.{ℕ, ◌≡◌, Bool, List, [], ◌∷◌, ◌++◌, ltb}
-use Rattle.machine.specs.Permission.{permitted}
+use Rattle.std.specs.Prelude.{ℕ, ◌≡◌, Bool, List, [], ◌∷◌, ◌++◌, ltb, leb}
+use Rattle.machine.specs.Registers.{mode}
+use Rattle.machine.specs.Permission.{least_mode}
 use Rattle.machine.specs.State.{State}
 use Rattle.machine.specs.Questions.{Question, question, selector_fits, verdict}
 use Rattle.machine.specs.declared.Command.{Command}
@@ -22,4 +23,4 @@ asked_context strand side selector = asked_side strand side ++ (question refusal
 -- 5, 6 and 16, of a command that is open to guests or not
 abbrev pub asked_open : List ℕ → ℕ → ℕ → Bool → List Question
 asked_open file strand side guest =
-    asked_side strand side ++ (question refusal.Permission (permitted file strand guest) ∷ [])
+    asked_side strand side ++ (question refusal.Permission (leb (least_mode guest) (mode file strand)) ∷ [])

@@ -1,8 +1,9 @@
 // Questions 5 to 13, 15 and 16, asked on the state as it is before a command acts: document 01, "Questions before a command acts".
-ghost use Rattle.std.specs.Prelude.{◌≡◌, ◌<◌};
+ghost use Rattle.std.specs.Prelude.{◌≡◌, ◌<◌, leb};
 ghost use Rattle.machine.specs.State.{state_in};
 ghost use Rattle.state.specs.Calls.{Lent};
-ghost use Rattle.machine.specs.Permission.{guest_writable, permitted};
+ghost use Rattle.machine.specs.Registers.{mode};
+ghost use Rattle.machine.specs.Permission.{guest_writable, least_mode};
 ghost use Rattle.machine.specs.Questions.{selector_fits, nucleus_fetch, size_fits, ask, verdict};
 ghost use Rattle.questions.specs.Verdicts.{Either, asked_side, asked_context, asked_open};
 ghost use Rattle.machine.specs.declared.Command.TheVariants as command;
@@ -35,7 +36,7 @@ fn is_nucleus_fetch(state: &[u64], strand: u8, kind: u8, selector: u8) -> bool
 // Number 16: the strand's mode may do what is open to guests, or what is not.
 fn mode_allows(state: &[u64], strand: u8, guest: bool) -> bool
     requires { Lent state.now × (strand < 4) }
-    ensures { result ≡ permitted (state_in state.now).registers strand guest }
+    ensures { result ≡ leb (least_mode guest) (mode (state_in state.now).registers strand) }
 {
     let mode = state::read_register(state, strand, machine::MODE);
     machine::HYPERPRIVILEGED <= mode || (guest && machine::PRIVILEGED <= mode)
@@ -44,7 +45,7 @@ fn mode_allows(state: &[u64], strand: u8, guest: bool) -> bool
 // The same of a write, by the least mode that the register takes: fewer instructions where that is not known beforehand.
 fn mode_writes(state: &[u64], strand: u8, number: u8) -> bool
     requires { Lent state.now × (strand < 4) }
-    ensures { result ≡ permitted (state_in state.now).registers strand (guest_writable number) }
+    ensures { result ≡ leb (least_mode (guest_writable number)) (mode (state_in state.now).registers strand) }
 {
     let least = if registers::is_guest_writable(number) {
         machine::PRIVILEGED

@@ -7,9 +7,8 @@ use Rattle.machine.specs.State.{counts, reset_of, reset_number}
 use Rattle.machine.specs.Stream.{Bytes, Outcome, outcome, run_of}
 use Rattle.machine.specs.Words.{unpacked, packed, fields}
 use Rattle.machine.specs.Places.{slots}
-use Rattle.machine.specs.Reference.{RunTold, ResetTold}
-use Rattle.machine.specs.Told.{returned, Told}
-use Rattle.machine.specs.Fields.{IsBits, HasBits, Fields}
+use Rattle.machine.specs.Reference.{RunTold, ResetTold, returned, Told}
+use Rattle.machine.specs.Demand2.{IsBits, HasBits, Fields}
 use Rattle.machine.specs.Demand3.{Demand3}
 use Rattle.machine.specs.declared.Report.{Report}
 use Rattle.machine.specs.declared.Tte.{Tte}

@@ -6,11 +6,10 @@ ghost use Rattle.machine.specs.State.{counts, state_length, reset_of, reset_numb
 ghost use Rattle.machine.specs.Stream.{run_of};
 ghost use Rattle.machine.specs.Words.{unpacked, packed, fields};
 ghost use Rattle.machine.specs.Places.{slots, reference_start, reference_words};
-ghost use Rattle.machine.specs.Reference.{RunTold, ResetTold};
-ghost use Rattle.machine.specs.Told.{Told};
-ghost use Rattle.machine.specs.Fields.{IsBits, HasBits, Fields};
+ghost use Rattle.machine.specs.Reference.{RunTold, ResetTold, Told};
+ghost use Rattle.machine.specs.Demand2.{IsBits, HasBits, Fields};
 ghost use Rattle.machine.specs.Demand3.{Demand3};
-ghost use Rattle.machine.specs.Guests.{GuestsConfined, MarkAlone};
+ghost use Rattle.machine.specs.Guests.{GuestsConfined};
 ghost use Rattle.t1mmu.specs.Equal.{Equal};
 ghost use Rattle.t1mmu.specs.Version.{version};
 
@@ -21,7 +20,7 @@ use machine::{Report, Tte};
 pub extern "C" fn t1mmu_version() -> u32
     ensures { result ≡ version }
 {
-    0x04_00_01
+    0x04_00_00
 }
 
 // How many words a state has: those of an empty ledger with its places.
@@ -45,8 +44,7 @@ pub extern "C" fn t1mmu_reset(state: &mut [u64]) -> u8
 
 // Runs the commands of the input on the state, of a stream without the hypervisor's mark. `told` holds it to the ledger with its places, in
 // no word of the unit; `equal` to the unit's definition, of which `lists` says the same over every list of runs, and `demand3` what document
-// 01's demand 3 asks. `guests` is about lists of such calls and of served misses, by what `told` says of each. `mark` says that the other
-// call asks of all commands but invalidations what this one does.
+// 01's demand 3 asks. `guests` is about lists of such calls, by what `told` says of each.
 #[unsafe(no_mangle)]
 pub extern "C" fn t1mmu_run(state: &mut [u64], input: &[u8], output: &mut [u8]) -> Report
     ensures told { RunTold false slots state.old input.now output.old
@@ -56,13 +54,12 @@ pub extern "C" fn t1mmu_run(state: &mut [u64], input: &[u8], output: &mut [u8]) 
     ensures lists { Told counts slots }
     ensures demand3 { Demand3 counts }
     ensures guests { GuestsConfined slots }
-    ensures mark { MarkAlone }
 {
     stream::run(state, input, output, false)
 }
 
 // The same of a stream that the caller marks as the hypervisor's: its invalidations are permitted, and nothing else is that is not in the
-// other call (`mark`).
+// other call.
 #[unsafe(no_mangle)]
 pub extern "C" fn t1mmu_run_hypervisor(state: &mut [u64], input: &[u8], output: &mut [u8]) -> Report
     ensures told { RunTold true slots state.old input.now output.old
@@ -71,7 +68,6 @@ pub extern "C" fn t1mmu_run_hypervisor(state: &mut [u64], input: &[u8], output: 
         state.new output.new result }
     ensures lists { Told counts slots }
     ensures demand3 { Demand3 counts }
-    ensures mark { MarkAlone }
 {
     stream::run(state, input, output, true)
 }

@@ -6,15 +6,12 @@ use Rattle.machine.specs.State.{counts}
 use Rattle.machine.specs.Stream.{Bytes, answer_bytes}
 use Rattle.machine.specs.Serve.{part_of, served_of}
 use Rattle.machine.specs.Places.{slots}
-use Rattle.machine.specs.Reference.{ServeTold, PartTold}
-use Rattle.machine.specs.Told.{Told}
+use Rattle.machine.specs.Reference.{ServeTold, PartTold, Told}
 use Rattle.machine.specs.Demand3.{Demand3}
-use Rattle.machine.specs.Guests.{GuestsConfined}
 use Rattle.machine.specs.declared.Part.{Part}
 use Rattle.machine.specs.declared.Answer.{Answer}
 use Rattle.machine.proofs.Demand3.{demand3}
 use Rattle.machine.proofs.Reference.{sold}
-use Rattle.machine.proofs.Guests.{guests-sold}
 
 -- a part that is the unit's
 pub part-call : (words : List ℕ) (strand side : ℕ) (zero other : Bytes) (r : Part) → r ≡ part_of counts words strand side zero other
@@ -26,7 +23,7 @@ pub serve-call : (words : List ℕ) (strand side : ℕ) (zero other : Bytes) (le
     → left ≡ (served_of counts words strand side zero other).words → given ≡ (served_of counts words strand side zero other).answer → b ≡ answer_bytes given
     → ServeTold slots words strand side zero other left b
     × ((left ≡ (served_of counts words strand side zero other).words)
-    × ((b ≡ answer_bytes (served_of counts words strand side zero other).answer) × (Told counts slots × (Demand3 counts × GuestsConfined slots))))
+    × ((b ≡ answer_bytes (served_of counts words strand side zero other).answer) × (Told counts slots × Demand3 counts)))
 serve-call words strand side zero other left given b e f g =
     let bytes : b ≡ answer_bytes (served_of counts words strand side zero other).answer = g ∙ ap answer_bytes f in
-    (rw (e, bytes) (sold.serve words strand side zero other), (e, (bytes, (sold, (demand3 counts, guests-sold)))))
+    (rw (e, bytes) (sold.serve words strand side zero other), (e, (bytes, (sold, demand3 counts))))

@@ -1,14 +1,12 @@
-// The calls of the miss handler that a buyer links from C or Rust, compiled apart from those of `t1mmu`: these are then compiled as they are
+// The calls of the miss handler that a buyer links from C or Rust, in an archive of their own: the unit's calls are then compiled as they are
 // without them. What is said of the calls of `t1mmu` holds here, too.
 ghost use Rattle.std.specs.Prelude.{◌≡◌};
 ghost use Rattle.machine.specs.State.{counts};
 ghost use Rattle.machine.specs.Stream.{answer_bytes};
 ghost use Rattle.machine.specs.Serve.{part_of, served_of};
 ghost use Rattle.machine.specs.Places.{slots};
-ghost use Rattle.machine.specs.Reference.{ServeTold, PartTold};
-ghost use Rattle.machine.specs.Told.{Told};
+ghost use Rattle.machine.specs.Reference.{ServeTold, PartTold, Told};
 ghost use Rattle.machine.specs.Demand3.{Demand3};
-ghost use Rattle.machine.specs.Guests.{GuestsConfined};
 
 use machine::Part;
 
@@ -35,7 +33,7 @@ pub struct Answered {
 }
 
 // Serves a miss from one of two tables. The clauses are those of a run: what the ledger with its places tells, what the unit's definition
-// comes to, both over every list of runs and served misses, and what guests leave, with a host that serves their misses between their runs.
+// comes to, and both over every list of runs and served misses.
 #[unsafe(no_mangle)]
 pub extern "C" fn t1mmu_serve<'a>(
     state: &mut [u64],
@@ -52,7 +50,6 @@ pub extern "C" fn t1mmu_serve<'a>(
         ≡ answer_bytes (served_of counts state.old strand side zero.now other.now).answer }
     ensures lists { Told counts slots }
     ensures demand3 { Demand3 counts }
-    ensures guests { GuestsConfined slots }
 {
     let answer = miss_handler::serve(state, strand, side, zero, other);
     Answered {

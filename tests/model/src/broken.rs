@@ -1,7 +1,8 @@
 //! Deliberate errors of the model, to show that the comparison would see such an error in the library.
-use std::cell::Cell;
+use std::sync::atomic::{AtomicU8, Ordering};
 
 #[derive(Clone, Copy, PartialEq, Debug)]
+#[repr(u8)]
 pub enum Broken {
     Nothing,
     /// a miss sets the used bit of slot 0
@@ -137,7 +138,7 @@ pub enum Broken {
     ServeNoted,
 }
 
-pub const ALL: &[(&str, Broken)] = &[
+const NAMES: &[(&str, Broken)] = &[
     ("used-bit-on-miss", Broken::UsedBitOnMiss),
     ("displace-highest", Broken::DisplaceHighest),
     ("forget-locked", Broken::ForgetLocked),
@@ -212,22 +213,22 @@ pub const ALL: &[(&str, Broken)] = &[
     ("serve-noted", Broken::ServeNoted),
 ];
 
-thread_local! {
-    static CHOSEN: Cell<Broken> = const { Cell::new(Broken::Nothing) };
+static CHOSEN: AtomicU8 = AtomicU8::new(Broken::Nothing as u8);
+
+/// Breaks the model for the rest of the process.
+pub fn choose(name: &str) -> Result<(), String> {
+    let names: Vec<&str> = NAMES.iter().map(|(n, _)| *n).collect();
+    let found = NAMES.iter().find(|(n, _)| *n == name).ok_or(format!("{name}: one of {names:?}"))?;
+    CHOSEN.store(found.1 as u8, Ordering::Relaxed);
+    Ok(())
 }
 
-/// Breaks the model for the rest of the thread.
-pub fn choose(which: Broken) {
-    CHOSEN.set(which);
-}
-
-pub fn named(name: &str) -> Result<Broken, String> {
-    let names: Vec<&str> = ALL.iter().map(|(n, _)| *n).collect();
-    ALL.iter().find(|(n, _)| *n == name).map(|(_, which)| *which).ok_or(format!("{name}: one of {names:?}"))
+pub fn names() -> Vec<&'static str> {
+    NAMES.iter().map(|(n, _)| *n).collect()
 }
 
 pub fn is(which: Broken) -> bool {
-    CHOSEN.get() == which
+    CHOSEN.load(Ordering::Relaxed) == which as u8
 }
 
 /// The size code of a hit, by a model that may be broken.

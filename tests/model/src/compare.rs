@@ -49,18 +49,6 @@ pub struct Counts {
     pub predicted: u64,
 }
 
-impl Counts {
-    pub fn add(&mut self, other: &Counts) {
-        let Counts { streams, runs, serves, commands, states, predicted } = other;
-        self.streams += streams;
-        self.runs += runs;
-        self.serves += serves;
-        self.commands += commands;
-        self.states += states;
-        self.predicted += predicted;
-    }
-}
-
 const OTHER_STARTS: [Start; 13] = [
     Start::Sound,
     Start::Sound,
@@ -227,7 +215,7 @@ impl Walk<'_> {
         if input != run.input {
             return Err("the input was written".to_string());
         }
-        let confined = guests::by_run(&self.words, run, report.taken, theirs.inner())?;
+        let confined = guests::confined(&self.words, run, report.taken, theirs.inner())?;
         self.coverage.confined(&confined);
         self.words.copy_from_slice(theirs.inner());
         self.coverage.stop(report.stop);
@@ -263,8 +251,6 @@ impl Walk<'_> {
         if tables != [&miss.zero.bytes()[..], &miss.other.bytes()[..]] {
             return Err("a table was written".to_string());
         }
-        let confined = guests::by_serve(&self.words, miss.strand, theirs.inner())?;
-        self.coverage.confined(&confined);
         self.words.copy_from_slice(theirs.inner());
         self.coverage.served(part.number, &answer, &events);
         Ok((part, answer))

@@ -47,13 +47,11 @@ struct Permissions {
     guests: [u64; CONFINED.len()],
 }
 
-const CONFINED: [(&str, fn(&Confined) -> bool); 6] = [
+const CONFINED: [(&str, fn(&Confined) -> bool); 4] = [
     ("a locked entry of another partition kept", |side| side.kept > 0),
     ("such an entry kept on a full side", |side| side.kept > 0 && side.full),
     ("such an entry kept on a full side that changed", |side| side.kept > 0 && side.full && side.changed),
     ("a locked entry of their own gone", |side| side.lost > 0),
-    ("such an entry kept on a full side that a serve changed", |side| side.served && side.kept > 0 && side.full && side.changed),
-    ("a locked entry of their own gone by a serve", |side| side.served && side.lost > 0),
 ];
 
 /// A command, of a write with its register and of an insertion or a demap of a page with its flags.
@@ -309,7 +307,7 @@ impl Coverage {
         }
     }
 
-    /// Both sides under a run of guests alone, or a serve for one.
+    /// Both sides under a run of guests alone.
     pub fn confined(&mut self, sides: &[Confined]) {
         sides.iter().for_each(|side| self.permissions.confined(side));
     }
@@ -421,29 +419,16 @@ impl Coverage {
         }
     }
 
-}
-
-/// What several comparisons met together: every thing that has to occur, by name, and how often it did.
-pub struct Met(Vec<(String, u64)>);
-
-impl Met {
-    pub fn by(parts: impl IntoIterator<Item = Coverage>) -> Met {
-        let mut all = Coverage::default().items();
-        for part in parts {
-            all.iter_mut().zip(part.items()).for_each(|(sum, (_, n))| sum.1 += n);
-        }
-        Met(all)
-    }
-
     pub fn print(&self) {
-        for pair in self.0.chunks(3) {
+        let items = self.items();
+        for pair in items.chunks(3) {
             let line: Vec<String> = pair.iter().map(|(name, n)| format!("{n:>9} {name:<52}")).collect();
             println!("{}", line.join("").trim_end());
         }
     }
 
     /// The names of what never occurred.
-    pub fn missing(&self) -> Vec<&str> {
-        self.0.iter().filter(|(_, n)| *n == 0).map(|(name, _)| &name[..]).collect()
+    pub fn missing(&self) -> Vec<String> {
+        self.items().into_iter().filter(|(_, n)| *n == 0).map(|(name, _)| name).collect()
     }
 }

@@ -1,12 +1,11 @@
-//! What document 02's U6 wants stated, on the words before and after a run, and beyond the request after a serve. Guests are the strands that
-//! an unmarked stream names or that are served, while all of them are in modes below 2: they change neither partition nor mode of any strand
-//! (nor, beyond the request, its translation), and a locked entry stays unless it belongs to the partition of one of them. Held by every run
-//! and serve alone, it is held by every list of them.
+//! What document 02's U6 wants stated, on the words before and after a run. Guests are the strands that an unmarked stream names, while all
+//! of them are in modes below 2: they change neither partition nor mode of any strand (nor, beyond the request, its translation), and a
+//! locked entry stays unless it belongs to the partition of one of them. Held by every run alone, it is held by every list of them.
 use crate::command::{decode, strand_of, width};
 use crate::generate::Run;
 use t1mmu::numbers::{cell_at, slot_at, HYPERPRIVILEGED, MODE, PARTITION, SIDES, SLOTS, SLOT_WORDS, STATE_WORDS, STRANDS, TRANSLATION};
 
-/// A side under a run of guests, or a serve for one.
+/// A side under a run of guests.
 #[derive(Clone, Copy, Debug, PartialEq)]
 pub struct Confined {
     /// locked entries of partitions that are not the guests', all of them kept
@@ -15,7 +14,6 @@ pub struct Confined {
     pub lost: usize,
     pub full: bool,
     pub changed: bool,
-    pub served: bool,
 }
 
 /// A slot of the words: owner, page, entry word, flags.
@@ -45,21 +43,12 @@ fn named(input: &[u8]) -> Vec<usize> {
 }
 
 /// Both sides under a run of guests; nothing of another run, and an error where the guests were not confined.
-pub fn by_run(before: &[u64], run: &Run, taken: usize, after: &[u64]) -> Result<Vec<Confined>, String> {
-    if run.hypervisor || taken == 0 {
+pub fn confined(before: &[u64], run: &Run, taken: usize, after: &[u64]) -> Result<Vec<Confined>, String> {
+    if run.hypervisor || taken == 0 || before.len() != STATE_WORDS {
         return Ok(Vec::new());
     }
-    confined(before, &named(&run.input[..taken]), false, after)
-}
-
-/// The same of a serve for a guest.
-pub fn by_serve(before: &[u64], strand: u8, after: &[u64]) -> Result<Vec<Confined>, String> {
-    let named = usize::from(strand);
-    confined(before, if named < STRANDS { std::slice::from_ref(&named) } else { &[] }, true, after)
-}
-
-fn confined(before: &[u64], named: &[usize], served: bool, after: &[u64]) -> Result<Vec<Confined>, String> {
-    if before.len() != STATE_WORDS || named.iter().any(|strand| before[cell_at(*strand, MODE)] >= HYPERPRIVILEGED) {
+    let named = named(&run.input[..taken]);
+    if named.iter().any(|strand| before[cell_at(*strand, MODE)] == HYPERPRIVILEGED) {
         return Ok(Vec::new());
     }
     for strand in 0..STRANDS {
@@ -68,10 +57,10 @@ fn confined(before: &[u64], named: &[usize], served: bool, after: &[u64]) -> Res
         }
     }
     let partitions: Vec<u64> = named.iter().map(|strand| before[cell_at(*strand, PARTITION)]).collect();
-    (0..SIDES).map(|side| confined_on(side, before, &partitions, served, after)).collect()
+    (0..SIDES).map(|side| confined_on(side, before, &partitions, after)).collect()
 }
 
-fn confined_on(side: usize, before: &[u64], partitions: &[u64], served: bool, after: &[u64]) -> Result<Confined, String> {
+fn confined_on(side: usize, before: &[u64], partitions: &[u64], after: &[u64]) -> Result<Confined, String> {
     let lives = |slot: &Slot| slots(after, side).any(|s| locked(&s) && s[..3] == slot[..3]);
     let (own, others): (Vec<Slot>, Vec<Slot>) = slots(before, side).filter(locked).partition(|slot| partitions.contains(&partition(slot)));
     if let Some(lost) = others.iter().find(|slot| !lives(slot)) {
@@ -82,6 +71,5 @@ fn confined_on(side: usize, before: &[u64], partitions: &[u64], served: bool, af
         lost: own.iter().filter(|slot| !lives(slot)).count(),
         full: slots(before, side).all(|slot| slot[2] >> 63 == 1),
         changed: slots(before, side).ne(slots(after, side)),
-        served,
     })
 }

@@ -1,4 +1,4 @@
--- `examples::insertions` meets its contract: the slots keep their length.
+-- `examples::insertions` meets its contract: slots and state keep their lengths.
 use Prim.Native.Nat.{◌≤◌, ◌-◌}
 use mathlib.Core.Path.{◌≡◌}
 use native.Mathlib.Omega.{arith}
@@ -8,10 +8,10 @@ use Rattle.examples.proofs.insertions.Statement.{statement}
 use Rattle.examples.proofs.insertions.Tie as tie
 
 abbrev invariant-loop : tie.invariant-loop
-invariant-loop slots₀ q₀ slots q = (length slots ≡ length slots₀) × (1 ≤ q) × (q ≤ 67)
+invariant-loop slots₀ state₀ q₀ slots state q = (length slots ≡ length slots₀) × (length state ≡ length state₀) × (1 ≤ q) × (q ≤ 67)
 
 abbrev decreases-loop : tie.decreases-loop
-decreases-loop slots₀ q₀ slots q = 67 - q
+decreases-loop slots₀ state₀ q₀ slots state q = 67 - q
 
 pub insertions-spec : {M : Type 1} → statement M
 insertions-spec =
@@ -23,6 +23,7 @@ insertions-spec =
     (λ c κs. search rules)
     (λ c. omega arith)
     (λ c. omega arith)
+    (λ c. search rules)
     (λ c. search rules)
     (λ c. search rules)
     (λ c. search rules))

@@ -12,12 +12,11 @@ use Rattle.machine.proofs.Reference.{told, sold}
 use Rattle.machine.proofs.Examples.{starred}
 use Rattle.machine.proofs.Format.{decodes}
 use Rattle.machine.proofs.Frame.{framed}
-use Rattle.machine.proofs.Printed.{printed-run, runs}
+use Rattle.machine.proofs.Printed.{printed-run}
 use Rattle.machine.proofs.Searches.{searches}
 use Rattle.machine.proofs.Lookups.{lookups}
 use Rattle.machine.proofs.Extent.{extent}
-use Rattle.machine.proofs.Guests.{guests-confined, mark-alone}
-use Rattle.machine.proofs.Host.{host-told}
+use Rattle.machine.proofs.Guests.{guests-confined}
 use Rattle.machine.proofs.answer_width.Statement.{statement}
 use Rattle.machine.proofs.answer_width.Tie as tie
 
@@ -51,7 +50,7 @@ returns c = (
                     framed,
                     (
                       searches,
-                      (lookups, (extent, (guests-confined, (mark-alone, (host-told, (decodes, (starred, (printed-run, runs)))))))),
+                      (lookups, (extent, (guests-confined, (decodes, (starred, printed-run))))),
                     ),
                   ),
                 ),

@@ -41,8 +41,8 @@ passed : (c : tie.After-enum-told) →
     ask (asked_table (state_in a.state.now) a.strand a.side a.zero.now a.other.now) ≡ Passed
 passed c = sym c.before.before.ask-table.ensures ∙ c.enum_told.given.1
 
-hand-back-requires : tie.Need-hand-back-requires
-hand-back-requires c κs = miss-ready _ _ _ _ _ (sound (fine c.before)) (passed c.before)
+entry-of-requires : tie.Need-entry-of-requires
+entry-of-requires c κs = miss-ready _ _ _ _ _ (sound (fine c.before)) (passed c.before)
 
 serve-entry-requires : tie.Need-serve-entry-requires
 serve-entry-requires c κs =
@@ -58,7 +58,7 @@ returns-3 c =
     let entry = tag.before in
     let told = entry.before.before in
     let e = served-passed _ _ _ _ _ (sound (fine told)) (passed told) in
-    let did = rw (word.eight-bytes2.ensures, tag.eight-bytes.ensures, entry.hand-back.ensures.0) at served.serve-entry.ensures in
+    let did = rw (word.eight-bytes2.ensures, tag.eight-bytes.ensures, entry.entry_of.ensures.0) at served.serve-entry.ensures in
     (rw e did.words, rw e did.answer)
 
 pub serve-spec : {M : Type 1} → statement M
@@ -73,7 +73,7 @@ serve-spec =
     (λ c. search rules)
     returns-2
     (λ c. search rules)
-    hand-back-requires
+    entry-of-requires
     (λ c κs. search rules)
     (λ c κs. search rules)
     serve-entry-requires

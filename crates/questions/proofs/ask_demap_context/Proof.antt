@@ -2,6 +2,7 @@
 use mathlib.Core.Bool.{Bool}
 use borrow.Author.Rules.{rules}
 use Rattle.machine.specs.State.{state_in}
+use Rattle.machine.specs.Permission.{permitted}
 use Rattle.machine.specs.Questions.{asked}
 use Rattle.machine.specs.declared.Command.TheVariants as command
 use Rattle.questions.specs.Verdicts.{asked_context}
@@ -32,7 +33,7 @@ mode-allows-requires c κs =
     (s.requires, (there s.args.strand s.args.side _ told.ask-context.ensures c.enum_told.given.1).0)
 
 pub ask-demap-context-spec : {M : Type 1} → statement M
-unfolding asked
+unfolding asked permitted
 ask-demap-context-spec =
     tie.close
     (tie.spec

@@ -4,6 +4,7 @@ use mathlib.Core.Bool.{Bool}
 use borrow.Author.Rules.{rules}
 use borrow.Author.Tests.{lt-ltb, le-ltb}
 use Rattle.machine.specs.State.{state_in}
+use Rattle.machine.specs.Permission.{permitted}
 use Rattle.machine.specs.Questions.{asked}
 use Rattle.machine.specs.declared.Command.TheVariants as command
 use Rattle.questions.specs.Verdicts.{asked_context}
@@ -26,7 +27,7 @@ unfolding asked
 left-4 hv c = yes (left-3 hv c.before) (lt-ltb _ 2 c.if1.false)
 
 left-5 : (hv : Bool) (c : tie.Else2) → let told = c.before.before.before in Past hv told.before.before.before.before 5
-unfolding asked
+unfolding asked permitted
 left-5 hv c = yes (left-4 hv c.before.before) (held c.before.mode-allows.ensures c.if2.false)
 
 returns : tie.Need-returns
@@ -43,7 +44,7 @@ mode-allows-requires c κs =
     (s.requires, (there s.args.strand s.args.side _ told.ask-context.ensures c.before.enum_told.given.1).0)
 
 pub ask-demap-page-spec : {M : Type 1} → statement M
-unfolding asked
+unfolding asked permitted
 ask-demap-page-spec =
     tie.close
     (tie.spec

@@ -7,6 +7,7 @@ use borrow.Author.Rules.{rules}
 use borrow.Author.Tests.{lt-ltb, le-ltb}
 use Rattle.machine.specs.Pages.{in_range}
 use Rattle.machine.specs.Registers.{tag_access, tag_address}
+use Rattle.machine.specs.Permission.{permitted}
 use Rattle.machine.specs.Insertion.{candidate, has_slot}
 use Rattle.machine.specs.State.{state_in, side_of}
 use Rattle.state.specs.Calls.{Lent}
@@ -49,7 +50,7 @@ unfolding asked asked_insertion
 left-3 hv c = yes (left-2 hv c.before) (lt-ltb _ 4 c.if1.false)
 
 left-4 : (hv : Bool) (c : tie.Else2) → let at = c.before.before in Past hv (start at.before) 4
-unfolding asked asked_insertion
+unfolding asked asked_insertion permitted
 left-4 hv c = yes (left-3 hv c.before.before) (held c.before.mode-allows.ensures c.if2.false)
 
 -- back to where 5 and 6 passed: from 16, and from 12
@@ -81,7 +82,7 @@ slot : (c : tie.After-slot-to-be-had) →
 slot c = rw c.before.entry-for.ensures at c.slot-to-be-had.ensures
 
 pub ask-insert-spec : {M : Type 1} → statement M
-unfolding asked asked_insertion
+unfolding asked asked_insertion permitted
 ask-insert-spec =
     tie.close
     (tie.spec

@@ -5,6 +5,7 @@ use borrow.Author.Rules.{rules}
 use borrow.Author.Tests.{eq-eqb, ne_eqb}
 use lib.Dec.{eqb}
 use Rattle.machine.specs.State.{state_in}
+use Rattle.machine.specs.Permission.{permitted}
 use Rattle.machine.specs.Questions.{asked}
 use Rattle.machine.specs.declared.Command.TheVariants as command
 use Rattle.questions.specs.Verdicts.{asked_open}
@@ -15,14 +16,14 @@ use Rattle.questions.proofs.ask_rate.Tie as tie
 left-3 : (hv : Bool) (c : tie.After-enum-told) →
     let a = c.before.before.before.before.args in
     After hv (state_in a.state.now) (command.Rate a.strand a.side) 3
-unfolding asked
+unfolding asked permitted
 left-3 hv c =
     let told = c.before.before in
     let a = told.before.before.args in
     passed (asked_open (state_in a.state.now).registers a.strand a.side true) _ told.ask-open.ensures c.enum_told.given.1 (all hv _ _)
 
 returns : tie.Need-returns
-unfolding asked
+unfolding asked permitted
 returns c hv =
     let told = c.before.before.before in
     let a = told.before.before.args in

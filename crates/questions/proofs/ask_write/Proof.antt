@@ -4,6 +4,7 @@ use mathlib.Core.Bool.{Bool}
 use borrow.Author.Rules.{rules}
 use borrow.Author.Tests.{lt-ltb, le-ltb}
 use Rattle.machine.specs.State.{state_in}
+use Rattle.machine.specs.Permission.{permitted}
 use Rattle.machine.specs.Questions.{asked}
 use Rattle.machine.specs.declared.Command.TheVariants as command
 use Rattle.questions.proofs.Asks.{After, all, yes, no, none, held, failed}
@@ -26,7 +27,7 @@ unfolding asked
 left-3 hv c = yes (left-2 hv c.before.before) (held c.before.is-allowed.ensures c.if3.false)
 
 pub ask-write-spec : {M : Type 1} → statement M
-unfolding asked
+unfolding asked permitted
 ask-write-spec =
     tie.close
     (tie.spec

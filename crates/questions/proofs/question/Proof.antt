@@ -1,16 +1,17 @@
 -- `questions::question` meets its contract, command by command.
 use borrow.Author.Rules.{rules}
+use Rattle.machine.specs.Permission.{permitted}
 use Rattle.machine.specs.Questions.{asked, verdict}
 use Rattle.questions.proofs.question.Statement.{statement}
 use Rattle.questions.proofs.question.Tie as tie
 
 -- a demap all is not open to guests, pointers are
 demap-all : tie.Need-returns-5
-unfolding verdict asked
+unfolding verdict asked permitted
 demap-all c = rw c.before.before.command5.given.1 c.ask-open.ensures
 
 pointers : tie.Need-returns-9
-unfolding verdict asked
+unfolding verdict asked permitted
 pointers c = rw c.before.before.command9.given.1 c.ask-open2.ensures
 
 pub question-spec : {M : Type 1} → statement M
