@@ -1,4 +1,6 @@
 // One access: document 01, "Access". Prepare (steps 1 to 4), lookup (5), judge (6 and 7), translate (8), settle (used bit and registers).
+#![tactic(auto)]
+
 ghost use Rattle.std.specs.Prelude.{◌≡◌, true, not, cond, ◌&&◌, ◌||◌, ◌+◌, ◌%◌, ◌^◌, ◌<◌, ◌≤◌, eqb, get_or};
 ghost use Rattle.laws.specs.declared.Found.TheVariants.{At};
 ghost use Rattle.machine.specs.Words.{bits};

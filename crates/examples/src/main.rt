@@ -1,6 +1,8 @@
 // Worked examples of the paper: which entry an insertion removes, and which it displaces, each on an empty side of 64 slots by itself
 // and, beside it, by commands to the whole unit; and which pages a search compares. The numbers printed stand in keys and entries or are
 // what the library answers.
+#![tactic(auto)]
+
 mod commands;
 mod searches;
 

@@ -11,6 +11,7 @@ use borrow.Author.Tests.{eq-eqb, ne_eqb, eqb-true, eqb-false}
 use Rattle.laws.specs.Passing.{how_many, none_passes}
 use Rattle.laws.proofs.Bools.{by-test, clash, and_both, and_left, and_right}
 use Rattle.machine.specs.State.{Counts, counts, slot_count, state_words, State, state_of, encode, sound, words_sound, reset, reset_of, reset_number}
+use Rattle.machine.specs.Step.{step}
 use Rattle.machine.specs.Stream.{Bytes, answer_bytes, Outcome, after, answers_bytes, run_of}
 use Rattle.machine.specs.Serve.{part_of, Served, served_of}
 use Rattle.machine.specs.Serve as unit
@@ -108,7 +109,7 @@ unfolding fed_after reference_after ledger_bytes reference_bytes
 own-agree hv n u k [] h = (refl, refl)
 own-agree hv n u k (c ∷ cs) h =
     let s = step-says hv n u k c h in
-    let (a, b) = own-agree hv n _ (fed_next hv n u k c) cs s.alike in
+    let (a, b) = own-agree hv n (step hv u c).state (fed_next hv n u k c) cs s.alike in
     let e = own-next h hv c in (
       a ∙ ap (λ (x : Reference). reference_after hv (slot_count n) x cs) e,
       ap₂ (λ (x y : Bytes). x ++ y) (ap (λ (w : Written). w.bytes) (own-entered h hv c)) (b ∙ ap (λ (x : Reference). reference_bytes hv (slot_count n) x cs) e),

@@ -1,4 +1,6 @@
 // What a buyer must believe: the declared types, the definitions in specs/ and the theorems on them.
+#![tactic(auto)]
+
 ghost use Rattle.std.specs.Prelude.{◌≡◌, length};
 ghost use Rattle.machine.specs.State.{Counts, counts, slot_count};
 ghost use Rattle.machine.specs.Stream.{answer_bytes};

@@ -1,4 +1,6 @@
 // A miss, served from the guest's TSB, which the caller lends as two tables: document 02, U1.
+#![tactic(auto)]
+
 ghost use Rattle.std.specs.Prelude.{◌≡◌, cond, ◌%◌, ◌^◌, ◌<◌, eqb, length};
 ghost use Rattle.machine.specs.Words.{bits};
 ghost use Rattle.machine.specs.State.{counts, state_in};

@@ -1,4 +1,6 @@
 // One miss record (document 02, U5): lookups seen, the newest word of outcomes, and fifteen older ones.
+#![tactic(auto)]
+
 ghost use Rattle.std.specs.Prelude.{◌≡◌, ◌||◌, ◌∷◌, ◌+◌, ◌*◌, ◌^◌, ◌≤◌, ◌<◌, eqb, ltb, length, get_or, take};
 ghost use Rattle.laws.specs.Tests.{all_below};
 ghost use Rattle.machine.specs.Record.{pushed, ones_of, per_thousand, newest_bits, record_sound};

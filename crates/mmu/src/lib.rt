@@ -1,4 +1,6 @@
 // One command on the state: its questions, then what it does and answers.
+#![tactic(auto)]
+
 ghost use Rattle.std.specs.Prelude.{◌≡◌, ◌+◌, ◌^◌, ◌<◌};
 ghost use Rattle.machine.specs.Slots.{context_of};
 ghost use Rattle.machine.specs.State.{state_in};

@@ -1,5 +1,7 @@
 // The stream program: at most 4,096 bytes of standard input, run from reset as a stream without the hypervisor's mark. A line for each answer, its 24 bytes in
 // hexadecimal; then a line that starts with `end` and has the three numbers that the run returns, the stop last.
+#![tactic(auto)]
+
 ghost use Rattle.std.specs.Prelude.{◌≡◌, ◌+◌, ◌*◌, ◌<◌, ◌≤◌, length};
 ghost use Rattle.mmu_stream.specs.Line.{digit_of, line_at, list_of};
 

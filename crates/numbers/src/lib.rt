@@ -1,4 +1,6 @@
 // The document's numbers of traps and refusals.
+#![tactic(auto)]
+
 ghost use Rattle.std.specs.Prelude.{◌≡◌};
 ghost use Rattle.machine.specs.Questions.{refusal_number};
 ghost use Rattle.machine.specs.Access.{trap_number, trap_fault};

@@ -1,4 +1,6 @@
 // What a command's operands and a strand's registers pick: sides, contexts, keys and new entries.
+#![tactic(auto)]
+
 ghost use Rattle.std.specs.Prelude.{◌≡◌, ◌<◌};
 ghost use Rattle.machine.specs.Registers.{selected, tag_access, tag_address, tag_context};
 ghost use Rattle.machine.specs.State.{state_in};

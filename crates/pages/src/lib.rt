@@ -1,4 +1,6 @@
 // Addresses and pages: document 01, "Addresses and entry words".
+#![tactic(auto)]
+
 ghost use Rattle.std.specs.Prelude.{◌≡◌, ◌-◌};
 ghost use Rattle.machine.specs.Pages.{in_range, listed, page_shift, page_size, page_start, page_offset, untranslated, bypassed};
 

@@ -1,4 +1,6 @@
 // Questions 5 to 13, 15 and 16, asked on the state as it is before a command acts: document 01, "Questions before a command acts".
+#![tactic(auto)]
+
 ghost use Rattle.std.specs.Prelude.{◌≡◌, ◌<◌, leb};
 ghost use Rattle.machine.specs.State.{state_in};
 ghost use Rattle.state.specs.Calls.{Lent};

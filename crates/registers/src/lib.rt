@@ -1,4 +1,6 @@
 // Registers: document 01, "Registers". Which numbers there are and the values that they may hold.
+#![tactic(auto)]
+
 ghost use Rattle.std.specs.Prelude.{◌≡◌, true, ◌+◌};
 ghost use Rattle.machine.specs.Permission.{guest_writable};
 ghost use Rattle.machine.specs.Registers.{known, writable, base_allowed, configuration_allowed, allowed, registers_sound};

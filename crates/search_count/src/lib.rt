@@ -1,5 +1,7 @@
 // How many pages a search compares, for programs of ours that look at it: no call of the library names the number. Any slots and any key are
 // taken; where the side is not sound or the key does not fit, nothing is found and nothing compared.
+#![tactic(auto)]
+
 ghost use Rattle.std.specs.Prelude.{◌≡◌, ◌&&◌, eqb};
 ghost use Rattle.machine.specs.Slots.{slots_of};
 ghost use Rattle.machine.specs.Sound.{side_sound};

@@ -1,4 +1,6 @@
 // The state as lent words: 128 register cells, then side 0, then side 1, 64 slots each, then the miss records.
+#![tactic(auto)]
+
 ghost use Rattle.std.specs.Prelude.{◌≡◌, true, ◌+◌, ◌*◌, ◌%◌, ◌<◌, length, get_or};
 ghost use Rattle.laws.specs.Tests.{count};
 ghost use Rattle.machine.specs.Slots.{no_slot, slots_of, KeyFits, search, searched, set_used};

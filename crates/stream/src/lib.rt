@@ -1,4 +1,6 @@
 // A run: document 01, "The stream". Number 1 once and first, then command after command from the caller's bytes.
+#![tactic(auto)]
+
 ghost use Rattle.std.specs.Prelude.{◌≡◌};
 ghost use Rattle.machine.specs.State.{counts};
 ghost use Rattle.machine.specs.Stream.{outcome, run_of};

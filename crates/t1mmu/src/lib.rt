@@ -1,6 +1,8 @@
 // The calls that a buyer links from C or Rust. Nothing is asked of the numbers and lengths that a caller gives; every result, state word and
 // output byte is by a definition of the unit, and again by the second texts (told). A slice is a pointer and a length to C; with length 0
 // the pointer is not read.
+#![tactic(auto)]
+
 ghost use Rattle.std.specs.Prelude.{◌≡◌, true, false, length};
 ghost use Rattle.machine.specs.State.{counts, state_length, reset_of, reset_number};
 ghost use Rattle.machine.specs.Stream.{run_of};

@@ -1,5 +1,7 @@
 // The calls of the miss handler that a buyer links from C or Rust, in an archive of their own: the unit's calls are then compiled as they are
 // without them. What is said of the calls of `t1mmu` holds here, too.
+#![tactic(auto)]
+
 ghost use Rattle.std.specs.Prelude.{◌≡◌};
 ghost use Rattle.machine.specs.State.{counts};
 ghost use Rattle.machine.specs.Stream.{answer_bytes};

@@ -1,4 +1,6 @@
 // The slots of one side of a TLB as lent words, four a slot, any number of them: read, store, search, used bits, overlap.
+#![tactic(auto)]
+
 ghost use Rattle.std.specs.Prelude.{◌≡◌, true, not, ◌+◌, ◌*◌, ◌<◌, ◌≤◌, ◌%◌, ◌^◌, max, length, drop};
 ghost use Rattle.laws.specs.Tests.{any_of};
 ghost use Rattle.machine.specs.Pages.{page_size};

@@ -1,4 +1,6 @@
 // Soundness of the slots of one side: document 01, "Sound means". Any number of slots.
+#![tactic(auto)]
+
 ghost use Rattle.std.specs.Prelude.{◌≡◌, ◌+◌, ◌*◌, ◌<◌, ◌≤◌, true, false, not, length, drop};
 ghost use Rattle.laws.specs.Tests.{any_of, all_of, pairwise};
 ghost use Rattle.machine.specs.Pages.{page_size};

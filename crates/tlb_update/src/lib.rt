@@ -1,4 +1,6 @@
 // Removal and insertion on the slots of one side: document 01, "Insertion and removal". Any number of slots.
+#![tactic(auto)]
+
 ghost use Rattle.std.specs.Prelude.{◌≡◌, not, ◌&&◌, eqb, ◌+◌, ◌*◌, ◌≤◌, ◌%◌, length};
 ghost use Rattle.laws.specs.Tests.{tick, count, first};
 ghost use Rattle.machine.specs.Slots.{slots_of, words_of, slot_of, with_slot, on_slot, is_live, partition_of, is_locked, answers_to};

@@ -1,4 +1,6 @@
 // TSB pointers: document 01, "The stream", its paragraph on pointers.
+#![tactic(auto)]
+
 ghost use Rattle.std.specs.Prelude.{◌≡◌, cond, ◌+◌, ◌*◌, ◌^◌, ◌<◌, eqb};
 ghost use Rattle.machine.specs.Words.{bits};
 ghost use Rattle.machine.specs.Registers.{tag_access, tag_address};

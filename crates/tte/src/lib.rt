@@ -1,4 +1,6 @@
 // Entry words (sun4v TTEs): document 01, "Addresses and entry words".
+#![tactic(auto)]
+
 ghost use Rattle.std.specs.Prelude.{◌≡◌, true, ◌%◌, ◌^◌, ◌<◌};
 ghost use Rattle.machine.specs.Words.{bits, unpacked, packed, fields, word_sound, word_insertable, frame, physical_by};
 

@@ -17,8 +17,7 @@ use Rattle.machine.proofs.Searches.{searches}
 use Rattle.machine.proofs.Lookups.{lookups}
 use Rattle.machine.proofs.Extent.{extent}
 use Rattle.machine.proofs.Guests.{guests-confined}
-use Rattle.machine.proofs.answer_width.Statement.{statement}
-use Rattle.machine.proofs.answer_width.Tie as tie
+use Rattle.machine.proofs.answer_width.Goals as goal
 
 kept : SoundKept
 kept = record {
@@ -27,41 +26,23 @@ kept = record {
   by_miss = λ n u strand side of_zero of_other h. alike-sound n _ _ (serve-says (state-alike n u h) strand side of_zero of_other).alike.ledger;
 }
 
-returns : tie.Need-returns
-returns c = (
-  (refl, answer-length),
-  (
-    told,
-    (
-      sold,
-      (
-        readable,
-        (
-          demand1,
-          (
-            demand2,
-            (
-              demand3,
-              (
-                described,
-                (
-                  kept,
-                  (
-                    framed,
-                    (
-                      searches,
-                      (lookups, (extent, (guests-confined, (decodes, (starred, printed-run))))),
-                    ),
-                  ),
-                ),
-              ),
-            ),
-          ),
-        ),
-      ),
-    ),
-  ),
-)
-
-pub answer-width-spec : {M : Type 1} → statement M
-answer-width-spec = tie.close (tie.spec returns)
+pub returns : goal.returns
+returns c = record {
+  width = (refl, answer-length);
+  told = told;
+  sold = sold;
+  readable = readable;
+  demand1 = demand1;
+  demand2 = demand2;
+  demand3 = demand3;
+  described = described;
+  sound = kept;
+  framed = framed;
+  searches = searches;
+  lookups = lookups;
+  extent = extent;
+  guests = guests-confined;
+  decodes = decodes;
+  starred = starred;
+  printed = printed-run;
+}
