@@ -46,7 +46,7 @@ pub const DISPLACED: u8 = 4;
 const CONTEXTS: u64 = 0x2000;
 
 // What is read of an answer: kind, a and the first value.
-#[derive(Drop)]
+#[derive(Clone, Copy)]
 pub struct Reply {
     pub kind: u8,
     pub a: u8,

@@ -2,7 +2,7 @@
 #![tactic(auto)]
 
 // What a search of a list finds: an index, or nothing.
-#[derive(Drop)]
+#[derive(Clone, Copy)]
 pub enum Found {
     At(usize),
     Nothing,

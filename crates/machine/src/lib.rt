@@ -83,18 +83,18 @@ pub const TSB_ENTRY_BYTES: usize = 16;
 pub const BYPASS_CODE: u64 = 15;
 
 // The three kinds of address. None is read for another: each crossing is a function with a name.
-#[derive(Drop)]
+#[derive(Clone, Copy)]
 pub struct VirtualAddress(pub u64);
 
-#[derive(Drop)]
+#[derive(Clone, Copy)]
 pub struct RealAddress(pub u64);
 
-#[derive(Drop)]
+#[derive(Clone, Copy)]
 pub struct PhysicalAddress(pub u64);
 
 // The fields of an entry word (a sun4v TTE), from bit 63 down.
 #[repr(C)]
-#[derive(Drop)]
+#[derive(Clone, Copy)]
 pub struct Tte {
     pub v: u64,
     pub nfo: u64,
@@ -112,7 +112,7 @@ pub struct Tte {
 }
 
 // An address and whose it is: what a lookup asks for, and what an insertion maps. A real one has no context.
-#[derive(Drop)]
+#[derive(Clone, Copy)]
 pub enum Key {
     Virtual {
         partition: u64,
@@ -130,7 +130,7 @@ pub enum Key {
 //   page   the virtual or real address at which the page starts
 //   word   the TTE; bit 63 says that the slot is live, bits 3:0 are the size code
 //   flags  lock + 2 * used bit
-#[derive(Drop)]
+#[derive(Clone, Copy)]
 pub struct Slot {
     pub owner: u64,
     pub page: u64,
@@ -139,21 +139,21 @@ pub struct Slot {
 }
 
 // What the match of an address against an entry yields: the size code of the page, and the offset in it.
-#[derive(Drop)]
+#[derive(Clone, Copy)]
 pub struct Reach {
     pub code: u64,
     pub offset: u64,
 }
 
 // What a search of slots yields: the slot found, and how many pages were compared.
-#[derive(Drop)]
+#[derive(Clone, Copy)]
 pub struct Searched {
     pub found: Found,
     pub compared: usize,
 }
 
 // Which entries a removal takes.
-#[derive(Drop)]
+#[derive(Clone, Copy)]
 pub enum Removal {
     // demap page: the entry that answers to a key
     Page(Key),
@@ -168,7 +168,7 @@ pub enum Removal {
 }
 
 // What the choice of a slot looks for. A candidate is an entry that may be displaced.
-#[derive(Drop)]
+#[derive(Clone, Copy)]
 pub enum Wanted {
     Empty,
     Unused,
@@ -176,7 +176,7 @@ pub enum Wanted {
 }
 
 // The slot that an insertion takes: an empty one; else an unused candidate; else, with all used bits cleared, a candidate; else none.
-#[derive(Drop)]
+#[derive(Clone, Copy)]
 pub enum Choice {
     Empty(usize),
     Unused(usize),
@@ -185,7 +185,7 @@ pub enum Choice {
 }
 
 // What an insertion comes to: a slot was empty, an entry was displaced, or no slot was to be had.
-#[derive(Drop)]
+#[derive(Clone, Copy)]
 pub enum Placed {
     Done,
     Displaced(Slot),
@@ -193,7 +193,7 @@ pub enum Placed {
 }
 
 // A decoded command, its operands as they stand in the stream.
-#[derive(Drop)]
+#[derive(Clone, Copy)]
 pub enum Command {
     Write {
         strand: u8,
@@ -247,7 +247,7 @@ pub enum Command {
 }
 
 // Why a command that was taken did not act: numbers 5 to 13, in their order; 14, of a miss alone; 15 and 16.
-#[derive(Drop)]
+#[derive(Clone, Copy)]
 pub enum Refusal {
     Strand,
     Side,
@@ -264,14 +264,14 @@ pub enum Refusal {
 }
 
 // What the questions before a command say.
-#[derive(Drop)]
+#[derive(Clone, Copy)]
 pub enum Verdict {
     Passed,
     Refused(Refusal),
 }
 
 // The traps of an access, by the T1's names. A fault type goes with an access exception alone.
-#[derive(Drop)]
+#[derive(Clone, Copy)]
 pub enum Trap {
     InstructionAccessException(u64),
     DataAccessException(u64),
@@ -285,7 +285,7 @@ pub enum Trap {
 }
 
 // The operands of an access, with its side and the address used.
-#[derive(Drop)]
+#[derive(Clone, Copy)]
 pub struct Access {
     pub strand: u8,
     pub kind: u8,
@@ -296,14 +296,14 @@ pub struct Access {
 }
 
 // What a trap does to tag access: nothing, or it writes the address used and a context.
-#[derive(Drop)]
+#[derive(Clone, Copy)]
 pub enum Tag {
     Kept,
     Written(u64),
 }
 
 // How far an access comes before the lookup.
-#[derive(Drop)]
+#[derive(Clone, Copy)]
 pub enum Prepared {
     Stopped(Trap, Tag),
     Bypass(Translation),
@@ -311,14 +311,14 @@ pub enum Prepared {
 }
 
 // What a found entry's word says to an access: a trap, or that it may go on.
-#[derive(Drop)]
+#[derive(Clone, Copy)]
 pub enum Judged {
     Faulted(Trap),
     Permitted,
 }
 
 // A trap with the address used and the tag access register after it.
-#[derive(Drop)]
+#[derive(Clone, Copy)]
 pub struct Trapped {
     pub address: VirtualAddress,
     pub tag: u64,
@@ -326,7 +326,7 @@ pub struct Trapped {
 }
 
 // A physical address, cp + 2 * e + 4 * ie of its page, and the page's size code; of a bypass 15.
-#[derive(Drop)]
+#[derive(Clone, Copy)]
 pub struct Translation {
     pub address: PhysicalAddress,
     pub attributes: u64,
@@ -334,7 +334,7 @@ pub struct Translation {
 }
 
 // A displaced entry as an answer names it: partition, real bit, page address plus context, and the word.
-#[derive(Drop)]
+#[derive(Clone, Copy)]
 pub struct Displaced {
     pub partition: u64,
     pub place: u64,
@@ -343,7 +343,7 @@ pub struct Displaced {
 }
 
 // What a command answers, and a served miss. The trap and the real bit stand third in what they belong to and so share a place: fewer instructions an answer.
-#[derive(Drop)]
+#[derive(Clone, Copy)]
 pub enum Answer {
     Done(u64),
     Physical(Translation),
@@ -357,7 +357,7 @@ pub enum Answer {
 }
 
 // What stands at a position of the stream: a command and its width, or the number that ends the run.
-#[derive(Drop)]
+#[derive(Clone, Copy)]
 pub enum Decoded {
     Known(Command, usize),
     Stop(u8),
@@ -365,7 +365,7 @@ pub enum Decoded {
 
 // What a run returns beside the state and the output.
 #[repr(C)]
-#[derive(Drop)]
+#[derive(Clone, Copy)]
 pub struct Report {
     pub answered: usize,
     pub taken: usize,
@@ -375,7 +375,7 @@ pub struct Report {
 // The part of a lent table that is handed back: of the other one where `other` is 1, else of that for context zero; or a number, and an
 // empty part.
 #[repr(C)]
-#[derive(Drop)]
+#[derive(Clone, Copy)]
 pub struct Part {
     pub number: u8,
     pub other: u8,

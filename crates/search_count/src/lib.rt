@@ -55,7 +55,7 @@ pub fn search_any(slots: &[u64], key: Key) -> Searched
 
 // The same for C: the slot found, or the number of slots.
 #[repr(C)]
-#[derive(Drop)]
+#[derive(Clone, Copy)]
 pub struct Counted {
     pub slot: usize,
     pub compared: usize,

@@ -29,7 +29,7 @@ pub extern "C" fn t1mmu_hand_back<'a>(
 
 // The bytes of an answer, as C can be given them.
 #[repr(C)]
-#[derive(Drop)]
+#[derive(Clone, Copy)]
 pub struct Answered {
     pub bytes: [u8; machine::ANSWER_BYTES],
 }

@@ -195,7 +195,7 @@ fn starts_at(slots: &[u64], i: usize, start: &[u64; 16]) -> bool
 }
 
 // What a walk of some slots comes to: how many it passed before the first that answers, and how many pages it compared, with that one's.
-#[derive(Drop)]
+#[derive(Clone, Copy)]
 struct Walked {
     passed: usize,
     compared: usize,

@@ -15,7 +15,7 @@ ghost use Rattle.tlb_sound.specs.Digests.{digest_one, joined, digest_of, fields_
 use machine::Slot;
 
 // What the slots of a side have: their owners, pages, words and flags by or, their words by and too.
-#[derive(Drop)]
+#[derive(Clone, Copy)]
 struct Digest {
     owners: u64,
     pages: u64,

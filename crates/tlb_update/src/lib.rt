@@ -49,7 +49,7 @@ fn takes(which: Removal, x: Slot) -> bool
 }
 
 // What every slot that a removal takes has. It turns down most slots at once, and the others are asked in full.
-#[derive(Drop)]
+#[derive(Clone, Copy)]
 enum Sieve {
     // a page start whose xor with this one is at most the larger of the two sizes
     Pages { page: u64, size: u64 },

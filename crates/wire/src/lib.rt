@@ -149,7 +149,7 @@ fn decode(input: &[u8], at: usize) -> Decoded
 }
 
 // The caller's bytes and the position of the next command.
-#[derive(Drop)]
+#[derive(Clone, Copy)]
 pub struct Reader<'a> {
     pub input: &'a [u8],
     pub at: usize,
@@ -199,7 +199,7 @@ pub fn stop_without_room(input: &[u8], at: usize) -> u8
 // ---- answers
 
 // The bytes of an answer as three words, big-endian.
-#[derive(Drop)]
+#[derive(Clone, Copy)]
 pub struct AnswerWords {
     pub head: u64,
     pub first: u64,

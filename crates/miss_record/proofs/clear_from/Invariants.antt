@@ -1,0 +1,19 @@
+use Prim.Native.Nat.{◌+◌, ◌*◌, ◌-◌, ◌≤◌}
+use mathlib.Core.Path.{◌≡◌, sym, ◌∙◌}
+use mathlib.Core.Logic.{⊎_elim}
+use mathlib.Core.Bool.{◌&&◌, ◌||◌}
+use native.Mathlib.Numerals.{add-one}
+use native.Mathlib.Omega.{arith}
+use borrow.Author.Tests.{lt-ltb, le-ltb}
+use lib.Dec.{eqb, ltb}
+use lib.ListN.{get_or}
+use Rattle.laws.specs.Tests.{all_below}
+use Rattle.laws.proofs.Belows.{below_all}
+use Rattle.miss_record.proofs.Clear.{or-clear}
+use Rattle.miss_record.proofs.clear_from.Given as goal
+
+abbrev pub invariant-loop-i : goal.invariant-loop-i
+invariant-loop-i l = (l.from ≤ l.i) × (l.i ≤ 15) × (eqb l.unused 0 ≡ all_below (λ j. ltb j l.from || (ltb (64 * (j + 1)) l.seen || eqb (get_or l.older j 0) 0)) l.i)
+
+abbrev pub decreases-loop-i : goal.decreases-loop-i
+decreases-loop-i l = 15 - l.i

@@ -1,0 +1,34 @@
+-- `tlb::clear_used` meets its contract. The invariant: the first i slots have no used bit, the others are as they were.
+use Prim.Native.Nat.{◌≤◌, ◌-◌}
+use mathlib.Core.Path.{◌≡◌, refl, ap, ◌∙◌}
+use native.Mathlib.Omega.{arith}
+use lib.ListN.{length}
+use Rattle.machine.specs.Slots.{without_used, on_slot}
+use Rattle.machine.proofs.Slots.{flags-on, replaced, replace-start, replace-turn, replace-end, replace-length}
+use Rattle.tlb.proofs.clear_used.Goals as goal
+
+-- the length stays
+same : (c : goal.In-loop-i) → length c.loop-i.slots ≡ length c.args.slots.now
+same c = ap length c.loop-i.invariant.1 ∙ replace-length without_used c.args.slots.now _ c.requires
+
+pub loop-i-init : goal.loop-i-init
+loop-i-init c = (omega arith, replace-start without_used c.args.slots.now c.requires)
+
+pub bounds-slots-k : goal.bounds-slots-k
+bounds-slots-k c = omega (arith, same c.before)
+
+pub bounds-slots-k-in-loop-i : goal.bounds-slots-k-in-loop-i
+bounds-slots-k-in-loop-i c = omega (arith, same c.before)
+
+pub loop-i-preserved : goal.loop-i-preserved
+loop-i-preserved c =
+    let l = c.args.slots.now in
+    let i = c.loop-i.i in (
+      omega arith,
+      flags-on without_used c.loop-i.slots i _ (omega (arith, same c.before)) refl
+          ∙ ap (on_slot without_used i) c.loop-i.invariant.1
+          ∙ replace-turn without_used l i (omega arith),
+    )
+
+pub returns : goal.returns
+returns c = c.loop-i.invariant.1 ∙ replace-end without_used c.args.slots.now _ (omega arith)
