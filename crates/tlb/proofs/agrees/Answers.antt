@@ -1,5 +1,4 @@
 -- `tlb::agrees` meets its contract, test by test.
-use borrow.Author.Rules.{rules}
 use borrow.Author.Tests.{eq-eqb, ne_eqb}
 use Rattle.tlb.proofs.agrees.Goals as goal
 

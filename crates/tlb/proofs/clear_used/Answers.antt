@@ -1,5 +1,6 @@
 -- `tlb::clear_used` meets its contract. The invariant: the first i slots have no used bit, the others are as they were.
-use Prim.Native.Nat.{◌≤◌, ◌-◌}
+use Prim.Native.Nat.{ℕ, ◌%◌}
+use mathlib.Core.List.{List}
 use mathlib.Core.Path.{◌≡◌, refl, ap, ◌∙◌}
 use native.Mathlib.Omega.{arith}
 use lib.ListN.{length}
@@ -8,24 +9,24 @@ use Rattle.machine.proofs.Slots.{flags-on, replaced, replace-start, replace-turn
 use Rattle.tlb.proofs.clear_used.Goals as goal
 
 -- the length stays
-same : (c : goal.In-loop-i) → length c.loop-i.slots ≡ length c.args.slots.now
-same c = ap length c.loop-i.invariant.1 ∙ replace-length without_used c.args.slots.now _ c.requires
+same : (l new : List ℕ) (i : ℕ) → length l % 4 ≡ 0 → new ≡ replaced without_used i l → length new ≡ length l
+same l new i h e = ap length e ∙ replace-length without_used l i h
 
 pub loop-i-init : goal.loop-i-init
 loop-i-init c = (omega arith, replace-start without_used c.args.slots.now c.requires)
 
 pub bounds-slots-k : goal.bounds-slots-k
-bounds-slots-k c = omega (arith, same c.before)
+bounds-slots-k c = omega (arith, same _ _ _ c.requires c.loop-i.invariant.1)
 
 pub bounds-slots-k-in-loop-i : goal.bounds-slots-k-in-loop-i
-bounds-slots-k-in-loop-i c = omega (arith, same c.before)
+bounds-slots-k-in-loop-i c = omega (arith, same _ _ _ c.requires c.loop-i.invariant.1)
 
 pub loop-i-preserved : goal.loop-i-preserved
 loop-i-preserved c =
     let l = c.args.slots.now in
     let i = c.loop-i.i in (
       omega arith,
-      flags-on without_used c.loop-i.slots i _ (omega (arith, same c.before)) refl
+      flags-on without_used c.loop-i.slots i _ (omega (arith, same _ _ _ c.requires c.loop-i.invariant.1)) refl
           ∙ ap (on_slot without_used i) c.loop-i.invariant.1
           ∙ replace-turn without_used l i (omega arith),
     )

@@ -1,9 +1,7 @@
 use Prim.Native.Nat.{◌≤◌, ◌-◌}
-use mathlib.Core.Path.{◌≡◌, refl, ap, ◌∙◌}
-use native.Mathlib.Omega.{arith}
-use lib.ListN.{length}
-use Rattle.machine.specs.Slots.{without_used, on_slot}
-use Rattle.machine.proofs.Slots.{flags-on, replaced, replace-start, replace-turn, replace-end, replace-length}
+use mathlib.Core.Path.{◌≡◌}
+use Rattle.machine.specs.Slots.{without_used}
+use Rattle.machine.proofs.Slots.{replaced}
 use Rattle.tlb.proofs.clear_used.Given as goal
 
 abbrev pub invariant-loop-i : goal.invariant-loop-i

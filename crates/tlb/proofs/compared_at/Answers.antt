@@ -1,5 +1,4 @@
 -- `tlb::compared_at` meets its contract: the owner, then bit 63.
-use borrow.Author.Rules.{rules}
 use borrow.Author.Tests.{eq-eqb, ne_eqb}
 use Rattle.machine.proofs.Slots.{slot-get}
 use Rattle.tlb.specs.Tables.{compared_by}

@@ -1,5 +1,4 @@
 -- `tlb::holds` meets its contract.
-use borrow.Author.Rules.{rules}
 use Rattle.tlb.proofs.holds.Goals as goal
 
 pub returns : goal.returns

@@ -1,7 +1,6 @@
 -- `tlb::key_owner` meets its contract.
 use mathlib.Core.Path.{◌∙◌, sym, ap}
 use Rattle.machine.specs.Slots.{key_owner}
-use borrow.Author.Rules.{rules}
 use Rattle.tlb.proofs.key_owner.Goals as goal
 
 pub returns-in-Virtual : goal.returns-in-Virtual

@@ -1,24 +1,18 @@
 -- `tlb::overlaps_none` meets its contract. The invariant: x overlaps a slot from `from` on exactly where it overlaps one from j on.
-use Prim.Native.Nat.{◌-◌}
-use mathlib.Core.Path.{◌≡◌, refl, sym, ap, ◌∙◌}
+use mathlib.Core.Path.{refl, sym, ap, ◌∙◌}
 use mathlib.Core.Bool.{not}
 use native.Mathlib.Omega.{arith}
-use lib.ListN.{drop}
-use Rattle.laws.specs.Tests.{any_of}
 use Rattle.laws.proofs.Walks.{any-hit, any-pass, any-end}
 use Rattle.machine.specs.Slots.{slots_of, no_slot}
 use Rattle.machine.specs.Insertion.{overlaps}
 use Rattle.machine.proofs.Slots.{slots_length}
-use borrow.Author.Rules.{rules}
 use Rattle.tlb.proofs.overlaps_none.Goals as goal
 
 pub loop-j-init : goal.loop-j-init
 loop-j-init c = refl
 
-overlaps-at-requires : tie.Need-overlaps-at-requires invariant-loop decreases-loop
-overlaps-at-requires c κs =
-    let s = c.before.before.before in
-    (omega arith, s.spans.ensures ∙ rw (s.before.page-size.ensures, s.before.before.size-code.ensures))
+pub overlaps_at-requires : goal.overlaps_at-requires
+overlaps_at-requires c = (omega arith, c.spans-span.ensures ∙ rw (c.page_size.ensures, c.size_code.ensures))
 
 pub returns-then-overlaps_at : goal.returns-then-overlaps_at
 returns-then-overlaps_at c =

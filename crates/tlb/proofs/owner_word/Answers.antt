@@ -1,6 +1,5 @@
 -- `tlb::owner_word` meets its contract.
 use native.Mathlib.Omega.{arith}
-use borrow.Author.Rules.{rules}
 use Rattle.tlb.proofs.owner_word.Goals as goal
 
 pub returns-then-real : goal.returns-then-real

@@ -5,7 +5,6 @@ use mathlib.Core.Bool.{true}
 use native.Mathlib.Omega.{arith}
 use native.Mathlib.Nat.{mod-lt, lt_of_lt_of_le}
 use lib.Pow.{split, pow_pos, pow_mono}
-use borrow.Author.Rules.{rules}
 use borrow.Author.Tests.{eqb-true}
 use Rattle.machine.specs.Pages.{page_shift, page_start, page_offset}
 use Rattle.machine.specs.Slots.{size_code, holds}
@@ -26,6 +25,6 @@ returns c =
     let x = c.args.x in
     let a = c.args.address in
     let offset : a - x.page ≡ page_offset (size_code x) a = omega (arith, parts x a c.requires) in record {
-  matched = rw (c.size_code.ensures, offset) (match-within x a c.requires);
-  small = rw offset (lt_of_lt_of_le (mod-lt a (pow_pos (page_shift (size_code x)))) (pow_mono (shift_small (size_code x))));
-}
+      matched = rw (c.size_code.ensures, offset) (match-within x a c.requires);
+      small = rw offset (lt_of_lt_of_le (mod-lt a (pow_pos (page_shift (size_code x)))) (pow_mono (shift_small (size_code x))));
+    }

@@ -2,7 +2,6 @@
 use mathlib.Core.Path.{◌≡◌, ap₂, ◌∙◌}
 use mathlib.Core.Bool.{true}
 use mathlib.Core.List.{List}
-use borrow.Author.Rules.{rules}
 use Rattle.laws.proofs.Bools.{and_left}
 use Rattle.laws.specs.Tests.{all_of}
 use Rattle.laws.proofs.Finds.{first-where, upto-where}

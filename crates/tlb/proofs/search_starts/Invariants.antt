@@ -1,7 +1,5 @@
 use Prim.Native.Nat.{◌-◌, ◌≤◌}
-use mathlib.Core.Path.{refl, sym}
-use native.Mathlib.Omega.{arith}
-use Rattle.tlb.proofs.Seen.{Seen, seen_start, seen_end, walk-found, walk-past}
+use Rattle.tlb.proofs.Seen.{Seen}
 use Rattle.tlb.proofs.search_starts.Given as goal
 
 abbrev pub invariant-loop-i : goal.invariant-loop-i

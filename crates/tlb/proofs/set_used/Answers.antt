@@ -2,7 +2,6 @@
 use mathlib.Core.Path.{refl}
 use Rattle.machine.specs.Slots.{with_used}
 use Rattle.machine.proofs.Slots.{flags-on}
-use borrow.Author.Rules.{rules}
 use Rattle.tlb.proofs.set_used.Goals as goal
 
 pub returns : goal.returns

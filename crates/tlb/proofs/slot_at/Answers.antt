@@ -1,7 +1,6 @@
 -- `tlb::slot_at` meets its contract.
 use mathlib.Core.Path.{sym}
 use Rattle.machine.proofs.Slots.{slot-get}
-use borrow.Author.Rules.{rules}
 use Rattle.tlb.proofs.slot_at.Goals as goal
 
 pub returns : goal.returns

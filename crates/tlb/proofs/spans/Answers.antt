@@ -1,6 +1,5 @@
 -- `tlb::spans` meets its contract.
 use Rattle.tlb.specs.Tables.{spans_of}
-use borrow.Author.Rules.{rules}
 use Rattle.tlb.proofs.spans.Goals as goal
 
 pub returns : goal.returns

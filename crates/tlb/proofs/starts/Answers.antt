@@ -1,7 +1,6 @@
 -- `tlb::starts` meets its contract.
 use mathlib.Core.Path.{refl}
 use Rattle.tlb.specs.Tables.{starts_of}
-use borrow.Author.Rules.{rules}
 use Rattle.tlb.proofs.starts.Goals as goal
 
 pub returns : goal.returns

@@ -1,5 +1,4 @@
 -- `tlb::starts_at` meets its contract.
-use borrow.Author.Rules.{rules}
 use Rattle.machine.proofs.Slots.{slot-get}
 use Rattle.tlb.proofs.starts_at.Goals as goal
 

@@ -2,7 +2,6 @@
 use lib.ListN.{length-set}
 use Rattle.machine.proofs.Slots.{four-stores}
 use native.Mathlib.Omega.{arith}
-use borrow.Author.Rules.{rules}
 use Rattle.tlb.proofs.store_slot.Goals as goal
 
 pub bounds-slots-k-2 : goal.bounds-slots-k-2
