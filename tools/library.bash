@@ -27,28 +27,8 @@ crates_of() {
             print name
         }
         { sub(/#.*/, "") }
-        NF { deps[$1] = $2 }
+        NF { split($1, word, " "); deps[word[1]] = $2 }
         END { n = split(names, of, " "); for (i = 1; i <= n; i++) visit(of[i]) }' crates.txt
-}
-
-# While rt writes, on standard input, says which crate's proof has begun and how many there are.
-# rt opens target/log/NAME.out as it comes to a crate, removes its stamp where there is something to prove, and writes at the end.
-tell_progress() { # MARK NAME ..
-    local mark=$1 got crate out begun=' ' n=0
-    shift
-    while :; do
-        got=0
-        read -r -t 0.3 _ || got=$?
-        # above 128 nothing came for a while; else it is the end
-        if [ "$got" -gt 0 ] && [ "$got" -le 128 ]; then return; fi
-        for crate; do
-            out=target/log/$crate.out
-            if [[ $begun = *" $crate "* ]] || [ ! "$out" -nt "$mark" ]; then continue; fi
-            if [ ! -s "$out" ] && [ -e "target/stamp/$crate" ]; then continue; fi
-            begun+="$crate " n=$((n + 1))
-            if [ ! -s "$out" ]; then echo "proving $crate ($n of $#) .." >&2; fi
-        done
-    done
 }
 
 # What a command that failed wrote last.
@@ -58,23 +38,53 @@ tell_failure() { # LOG
     exit 1
 }
 
-# prove NAME ..: rt check, which is silent for minutes, with a line for each crate that is not proved yet.
-prove() {
-    local log=target/library/check.log mark=target/library/begun crates
-    need rt
-    mkdir -p target/library
-    mapfile -t crates < <(crates_of "$@")
-    : >"$mark"
-    rt check "$@" 2>&1 | tee "$log" | tell_progress "$mark" "${crates[@]}" || tell_failure "$log"
+# Whether the crate has been proved since its files, crates.txt or a crate below it changed.
+is_proved() { # CRATE
+    local stamp=target/stamp/$1 below
+    [ -e "$stamp" ] && [ ! crates.txt -nt "$stamp" ] || return 1
+    [ -z "$(find "crates/$1"/{src,specs,proofs} -newer "$stamp" -print -quit 2>/dev/null)" ] || return 1
+    for below in $(crates_of "$1"); do
+        if [ "target/stamp/$below" -nt "$stamp" ]; then return 1; fi
+    done
 }
 
-# build_archives NAME ..: target/staticlib/libNAME.a of each crate, where it is older than the proof.
+# prove NAME ..: rt check of the named crates and those below them, lowest first, with a line for each that is not proved yet.
+prove() {
+    local log=target/library/check.log crates crate n=0
+    need rt
+    mkdir -p target/library target/stamp
+    mapfile -t crates < <(crates_of "$@")
+    for crate in "${crates[@]}"; do
+        n=$((n + 1))
+        if is_proved "$crate"; then continue; fi
+        echo "proving $crate ($n of ${#crates[@]}) .." >&2
+        (cd "crates/$crate" && rt check) >"$log" 2>&1 || tell_failure "$log"
+        touch "target/stamp/$crate"
+    done
+}
+
+# build_archives NAME ..: target/staticlib/libNAME.a of each crate, where it is older than the proof. The archive of a crate NAME_c has NAME's name.
 build_archives() {
-    local crate log=target/library/staticlib.log
+    local crate name log=target/library/staticlib.log
+    mkdir -p target/staticlib
     for crate; do
-        if [ "target/staticlib/lib$crate.a" -nt "target/stamp/$crate" ]; then continue; fi
-        echo "building lib$crate.a .." >&2
-        rt staticlib "$crate" >"$log" 2>&1 || tell_failure "$log"
+        name=${crate%_c}
+        if [ "target/staticlib/lib$name.a" -nt "target/stamp/$crate" ]; then continue; fi
+        echo "building lib$name.a .." >&2
+        (cd "crates/$crate" && rt lib) >"$log" 2>&1 || tell_failure "$log"
+        cp "crates/$crate/out/lib$crate.a" "target/staticlib/lib$name.a"
+    done
+}
+
+# build_programs NAME ..: target/bin/NAME of each program, where it is older than the proof. rt runs it, too, on its own input.
+build_programs() {
+    local program log=target/library/program.log
+    mkdir -p target/bin
+    for program; do
+        if [ "target/bin/$program" -nt "target/stamp/$program" ]; then continue; fi
+        echo "building $program .." >&2
+        (cd "crates/$program" && { [ ! -e stdin ] || exec <stdin; } && rt run) >"$log" 2>&1 || tell_failure "$log"
+        cp "crates/$program/out/$program" "target/bin/$program"
     done
 }
 
@@ -93,6 +103,7 @@ need_library() {
         prove "${archives[@]}" "$@"
         build_archives "${archives[@]}"
     fi
+    build_programs "$@"
     library=("${archives[@]/#/$T1MMU_LIB/lib}")
     library=("${library[@]/%/.a}")
     export T1MMU_LIB

@@ -53,7 +53,7 @@ pub fn search_any(slots: &[u64], key: Key) -> Searched
     }
 }
 
-// The same for C: the slot found, or the number of slots.
+// The same by numbers, as a C caller gives and takes them: the slot found, or the number of slots.
 #[repr(C)]
 #[derive(Clone, Copy)]
 pub struct Counted {
@@ -61,8 +61,7 @@ pub struct Counted {
     pub compared: usize,
 }
 
-#[unsafe(no_mangle)]
-pub extern "C" fn search_count(
+pub fn search_count(
     slots: &[u64],
     real: u8,
     partition: u64,
