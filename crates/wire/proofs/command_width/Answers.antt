@@ -1,0 +1,63 @@
+-- `wire::command_width` meets its contract: arm by arm.
+-- Assumes nothing.
+use borrow.Author.Tests.{ne_eqb}
+use Rattle.machine.specs.Stream.{width_of}
+use Rattle.wire.proofs.command_width.Goals as goal
+
+pub returns-in-1 : goal.returns-in-1
+unfolding width_of
+returns-in-1 c = rw c.in-1.is
+
+pub returns-in-2 : goal.returns-in-2
+unfolding width_of
+returns-in-2 c = rw c.in-2.is
+
+pub returns-in-3 : goal.returns-in-3
+unfolding width_of
+returns-in-3 c = rw c.in-3.is
+
+pub returns-in-4 : goal.returns-in-4
+unfolding width_of
+returns-in-4 c = rw c.in-4.is
+
+pub returns-in-5 : goal.returns-in-5
+unfolding width_of
+returns-in-5 c = rw c.in-5.is
+
+pub returns-in-6 : goal.returns-in-6
+unfolding width_of
+returns-in-6 c = rw c.in-6.is
+
+pub returns-in-7 : goal.returns-in-7
+unfolding width_of
+returns-in-7 c = rw c.in-7.is
+
+pub returns-in-8 : goal.returns-in-8
+unfolding width_of
+returns-in-8 c = rw c.in-8.is
+
+pub returns-in-9 : goal.returns-in-9
+unfolding width_of
+returns-in-9 c = rw c.in-9.is
+
+pub returns-in-10 : goal.returns-in-10
+unfolding width_of
+returns-in-10 c = rw c.in-10.is
+
+pub returns-in_default : goal.returns-in_default
+unfolding width_of
+returns-in_default c =
+    let no = c.in_default.in_default-own.rest in
+    let no-5 = no.0.0.0.0.0 in
+    simp (
+      ne_eqb _ _ no-5.0.0.0.0.1,
+      ne_eqb _ _ no-5.0.0.0.1,
+      ne_eqb _ _ no-5.0.0.1,
+      ne_eqb _ _ no-5.0.1,
+      ne_eqb _ _ no-5.1,
+      ne_eqb _ _ no.0.0.0.0.1,
+      ne_eqb _ _ no.0.0.0.1,
+      ne_eqb _ _ no.0.0.1,
+      ne_eqb _ _ no.0.1,
+      ne_eqb _ _ no.1,
+    )
