@@ -1,14 +1,11 @@
 -- `registers::file_sound` meets its contract. The loop has found every cell of the strands below `start` to fit.
-use Prim.Native.Nat.{◌-◌, ◌%◌, ◌≤◌}
-use mathlib.Core.Bool.{true}
-use mathlib.Core.Path.{◌≡◌, refl}
+use mathlib.Core.Path.{refl}
 use native.Mathlib.Omega.{arith}
 use borrow.Author.Rules.{rules}
-use borrow.Author.Tests.{eq-eqb, ne_eqb, not-true}
+use borrow.Author.Tests.{eq-eqb, ne_eqb}
 use Rattle.laws.proofs.Bools.{clash}
 use Rattle.laws.proofs.Belows.{below_all}
 use Rattle.machine.specs.Registers.{registers_sound}
-use Rattle.registers.specs.Cells.{CellsTold}
 use Rattle.registers.proofs.Cells.{passed}
 use Rattle.registers.proofs.file_sound.Goals as goal
 
@@ -19,14 +16,14 @@ returns-then-file-ne-REGISTER_WORDS c = rw (ne_eqb _ _ c.if-file-ne-REGISTER_WOR
 pub loop-start-init : goal.loop-start-init
 loop-start-init c = (search rules, search rules, record { each = λ e k h. absurd (omega arith); some = λ e. clash refl e })
 
-strand-fits-requires : tie.Need-strand-fits-requires invariant-loop decreases-loop
-strand-fits-requires c κs =
-    let inv = c.before.loop.invariant in
+pub strand_fits-requires : goal.strand_fits-requires
+strand_fits-requires c =
+    let inv = c.loop-start.invariant in
     (record { words = search rules; room = omega arith; begins = inv.1 }, inv.2)
 
 pub returns-then-not-strand_fits : goal.returns-then-not-strand_fits
 unfolding registers_sound
-returns-then-not-strand_fits c = rw (eq-eqb _ _ c.if-file-ne-REGISTER_WORDS.false, c.strand_fits.ensures.some (not-true _ c.if-not-strand_fits.true))
+returns-then-not-strand_fits c = rw (eq-eqb _ _ c.if-file-ne-REGISTER_WORDS.false, c.strand_fits.ensures.some c.if-not-strand_fits.true)
 
 pub overflow_add-start : goal.overflow_add-start
 unfolding registers_sound

@@ -16,7 +16,7 @@ above r k h j l = le-ltb r j (omega arith)
 pub returns-in-5 : goal.returns-in-5
 unfolding guest_writable
 returns-in-5 c =
-    let r = c.args.number in     let past = above r 5 (omega arith) in     rw (past 1 (omega arith), past 3 (omega arith), past 5 (omega arith), lt-ltb r 6 (omega arith))
+    let r = c.args.number in let past = above r 5 (omega arith) in rw (past 1 (omega arith), past 3 (omega arith), past 5 (omega arith), lt-ltb r 6 (omega arith))
 
 pub returns-in-1-to-2 : goal.returns-in-1-to-2
 unfolding guest_writable
@@ -26,7 +26,7 @@ returns-in-1-to-2 c =
 pub returns-in-8-to-21 : goal.returns-in-8-to-21
 unfolding guest_writable
 returns-in-8-to-21 c =
-    let r = c.args.number in     let past = above r 8 (omega arith) in     rw (past 1 (omega arith), past 3 (omega arith), past 5 (omega arith), past 6 (omega arith), past 8 (omega arith), lt-ltb r 22 (omega arith))
+    let r = c.args.number in let past = above r 8 (omega arith) in rw (past 1 (omega arith), past 3 (omega arith), past 5 (omega arith), past 6 (omega arith), past 8 (omega arith), lt-ltb r 22 (omega arith))
 
 pub returns-in_default : goal.returns-in_default
 unfolding guest_writable
@@ -46,4 +46,4 @@ returns-in_default-2 c =
 pub returns-in_default-3 : goal.returns-in_default-3
 unfolding guest_writable
 returns-in_default-3 c =
-    let r = c.args.number in     let past = above r 22 (omega arith) in     rw (       past 1 (omega arith),       past 3 (omega arith),       past 5 (omega arith),       past 6 (omega arith),       past 8 (omega arith),       past 22 (omega arith),     )
+    let r = c.args.number in let past = above r 22 (omega arith) in rw (past 1 (omega arith), past 3 (omega arith), past 5 (omega arith), past 6 (omega arith), past 8 (omega arith), past 22 (omega arith))

@@ -1,5 +1,4 @@
 -- `registers::is_writable` meets its contract.
-use borrow.Author.Rules.{rules}
 use borrow.Author.Tests.{lt-ltb, le-ltb}
 use Rattle.machine.specs.Registers.{writable}
 use Rattle.registers.proofs.is_writable.Goals as goal
