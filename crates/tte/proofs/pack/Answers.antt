@@ -9,6 +9,11 @@ use Rattle.machine.specs.Words.{packed, unpacked}
 use Rattle.machine.proofs.Words.{unpack-pack}
 use Rattle.tte.proofs.pack.Goals as goal
 
+-- a word that is zero below bit k, and its digits from there up
+record From (k word digits : ℕ) : Type 0 where
+  same : word ≡ digits * 2 ^ k
+  room : k ≤ 64
+
 -- a field of n bits goes behind the digits, shifted up by k ..
 behind : (n k x : ℕ) {word digits : ℕ} → From (n + k) word digits
     → From k (bit_or word (x % 2 ^ n * 2 ^ k % 2 ^ 64)) (digits * 2 ^ n + x % 2 ^ n)
@@ -32,6 +37,6 @@ returns c =
     let from-9 = behind 1 9 t.cv (behind 1 10 t.cp (behind 1 11 t.e (behind 1 12 t.ie from-13))) in
     let from-6 = behind 1 6 t.w (behind 1 7 t.ep (behind 1 8 t.p from-9)) in
     let word : _ ≡ packed t = last 4 t.size (behind 2 4 t.soft from-6) ∙ omega arith in record {
-  word = word;
-  again = λ h. ap unpacked word ∙ unpack-pack t h;
-}
+      word = word;
+      again = λ h. ap unpacked word ∙ unpack-pack t h;
+    }

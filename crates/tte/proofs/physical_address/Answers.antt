@@ -2,7 +2,6 @@
 use Prim.Native.Nat.{ℕ, ◌*◌, ◌%◌, ◌^◌, ◌<◌}
 use native.Mathlib.Omega.{arith}
 use lib.Pow.{split}
-use borrow.Author.Rules.{rules}
 use Rattle.machine.specs.Pages.{page_shift}
 use Rattle.machine.specs.Words.{bits, frame, physical_by}
 use Rattle.tte.proofs.physical_address.Goals as goal

@@ -9,6 +9,6 @@ pub returns : goal.returns
 unfolding unpacked
 returns c =
     record {
-  fields = refl;
-  again = pack-unpack c.args.word (omega arith);
-}
+      fields = refl;
+      again = pack-unpack c.args.word (omega arith);
+    }
