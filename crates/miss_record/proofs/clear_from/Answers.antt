@@ -1,7 +1,6 @@
 -- `miss_record::clear_from` meets its contract. The loop has joined those of the words below i that are not in use.
-use Prim.Native.Nat.{◌+◌, ◌*◌, ◌-◌, ◌≤◌}
+use Prim.Native.Nat.{◌+◌, ◌*◌}
 use mathlib.Core.Path.{◌≡◌, sym, ◌∙◌}
-use mathlib.Core.Logic.{⊎_elim}
 use mathlib.Core.Bool.{◌&&◌, ◌||◌}
 use native.Mathlib.Numerals.{add-one}
 use native.Mathlib.Omega.{arith}
@@ -12,6 +11,7 @@ use Rattle.laws.specs.Tests.{all_below}
 use Rattle.laws.proofs.Belows.{below_all}
 use Rattle.miss_record.proofs.Clear.{or-clear}
 use Rattle.miss_record.proofs.clear_from.Goals as goal
+use Rattle.miss_record.proofs.clear_from.Goals.{then-seen-i, else-seen-i}
 
 pub loop-i-init : goal.loop-i-init
 loop-i-init c = (omega arith, omega arith, sym (below_all _ _ (λ j l. rw (lt-ltb j _ l))))
@@ -24,10 +24,10 @@ loop-i-preserved c =
     let joined : eqb c.if-seen-i.unused 0
     ≡ ((ltb l.i a.from || (ltb (64 * (l.i + 1)) a.seen || eqb (get_or a.older.now l.i 0) 0)) && eqb l.unused 0) =
     rw (le-ltb l.i a.from l.invariant.0)
-    (⊎_elim
-    (λ w. rw (w.2, le-ltb (64 * (l.i + 1)) a.seen (omega (arith, w.0.taken))) (or-clear l.unused _))
-    (λ w. rw (w.1, lt-ltb (64 * (l.i + 1)) a.seen (omega (arith, w.0.left))))
-    c.if-seen-i.branch) in
+    (elim c.if-seen-i.branch [
+      | then-seen-i w ↦ rw (w.unused-is, le-ltb (64 * (l.i + 1)) a.seen (omega arith)) (or-clear l.unused _)
+      | else-seen-i w ↦ rw (w.unused-is, lt-ltb (64 * (l.i + 1)) a.seen (omega arith))
+    ]) in
     (omega arith, omega arith, rw (add-one l.i) (joined ∙ rw l.invariant.2))
 
 pub returns : goal.returns

@@ -1,5 +1,5 @@
 -- `miss_record::count_ones` meets its contract. The loop has counted the bits of the words below i; the last word comes behind it.
-use Prim.Native.Nat.{◌*◌, ◌-◌, ◌≤◌}
+use Prim.Native.Nat.{◌≤◌}
 use mathlib.Core.Path.{◌≡◌}
 use native.Mathlib.Numerals.{add-one}
 use native.Mathlib.Omega.{arith}
@@ -41,6 +41,6 @@ unfolding ones_of
 returns c =
     let l = c.loop-i in
     let e : l.i ≡ 14 = omega arith in record {
-  count = rw (rw e at l.invariant.2);
-  small = omega (arith, last-few c);
-}
+      count = rw (rw e at l.invariant.2);
+      small = omega (arith, last-few c);
+    }

@@ -1,9 +1,5 @@
 use Prim.Native.Nat.{◌*◌, ◌-◌, ◌≤◌}
 use mathlib.Core.Path.{◌≡◌}
-use native.Mathlib.Numerals.{add-one}
-use native.Mathlib.Omega.{arith}
-use lib.Count.{ones, ones-le}
-use lib.ListN.{get_or}
 use Rattle.machine.specs.Record.{ones_of}
 use Rattle.miss_record.proofs.count_ones.Given as goal
 

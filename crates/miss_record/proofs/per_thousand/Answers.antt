@@ -1,6 +1,5 @@
 -- `miss_record::per_thousand` meets its contract.
 use mathlib.Core.Path.{refl}
-use borrow.Author.Rules.{rules}
 use Rattle.machine.specs.Record.{per_thousand}
 use Rattle.miss_record.proofs.per_thousand.Goals as goal
 

@@ -3,7 +3,6 @@ use Prim.Native.Nat.{ℕ, ◌+◌, ◌*◌, ◌^◌, ◌<◌}
 use mathlib.Core.Bool.{◌&&◌, ◌||◌}
 use mathlib.Core.Path.{◌≡◌, sym, ◌∙◌}
 use native.Mathlib.Omega.{arith}
-use borrow.Author.Rules.{rules}
 use lib.Dec.{eqb, ltb}
 use lib.ListN.{get_or}
 use Rattle.laws.specs.Tests.{all_below}
@@ -11,26 +10,31 @@ use Rattle.machine.specs.Record.{record_sound}
 use Rattle.miss_record.proofs.Clear.{record-long, record-short}
 use Rattle.miss_record.proofs.record_sound.Goals as goal
 
--- the older words fit
-fit : (c : goal.After-shared_slice_known-1) (j : ℕ) → get_or c.args.older.now j 0 < 2 ^ 64
-fit c j = omega (arith, c.type_inv.older j)
-
--- of at most 1,024 lookups it is what the two calls say
-short : (c : goal.After-newest_sound) →
-    let a = c.args in
-    record_sound a.seen a.newest a.older.now
-    ≡ (c.newest_sound.result && all_below (λ j. ltb (64 * (j + 1)) a.seen || eqb (get_or a.older.now j 0) 0) 15)
-short c =
-    let a = c.args in
-    record-short a.seen a.older.now (fit c.before.before) a.newest (omega arith) ∙ rw c.newest_sound.ensures
-
 pub returns-then-seen-gt1024 : goal.returns-then-seen-gt1024
 returns-then-seen-gt1024 c =
     let a = c.args in
-    sym (record-long a.seen a.older.now (fit c.before) a.newest c.if-seen-gt1024.true (omega arith))
+    -- the older words fit
+    let fit : (j : ℕ) → get_or a.older.now j 0 < 2 ^ 64 = λ j. omega (arith, c.type_inv.older j) in
+    sym (record-long a.seen a.older.now fit a.newest c.if-seen-gt1024.true (omega arith))
 
 pub returns-then-newest_sound : goal.returns-then-newest_sound
-returns-then-newest_sound c = c.older_sound.ensures ∙ sym (short c.before.before ∙ rw c.if-newest_sound.true)
+returns-then-newest_sound c =
+    let a = c.args in
+    -- the older words fit
+    let fit : (j : ℕ) → get_or a.older.now j 0 < 2 ^ 64 = λ j. omega (arith, c.type_inv.older j) in
+    -- of at most 1,024 lookups it is what the two calls say
+    let short : record_sound a.seen a.newest a.older.now
+    ≡ (c.newest_sound.result && all_below (λ j. ltb (64 * (j + 1)) a.seen || eqb (get_or a.older.now j 0) 0) 15) =
+    record-short a.seen a.older.now fit a.newest (omega arith) ∙ rw c.newest_sound.ensures in
+    c.older_sound.ensures ∙ sym (short ∙ rw c.if-newest_sound.true)
 
 pub returns-else-newest_sound : goal.returns-else-newest_sound
-returns-else-newest_sound c = c.if-newest_sound.false ∙ sym (short c.before ∙ rw c.if-newest_sound.false)
+returns-else-newest_sound c =
+    let a = c.args in
+    -- the older words fit
+    let fit : (j : ℕ) → get_or a.older.now j 0 < 2 ^ 64 = λ j. omega (arith, c.type_inv.older j) in
+    -- of at most 1,024 lookups it is what the two calls say
+    let short : record_sound a.seen a.newest a.older.now
+    ≡ (c.newest_sound.result && all_below (λ j. ltb (64 * (j + 1)) a.seen || eqb (get_or a.older.now j 0) 0) 15) =
+    record-short a.seen a.older.now fit a.newest (omega arith) ∙ rw c.newest_sound.ensures in
+    c.if-newest_sound.false ∙ sym (short ∙ rw c.if-newest_sound.false)

@@ -1,11 +1,10 @@
 -- `miss_record::turn` meets its contract. The loop has moved the words below i, and holds the one that goes to i.
-use Prim.Native.Nat.{◌-◌, ◌≤◌, ◌<◌}
+use Prim.Native.Nat.{◌<◌}
 use mathlib.Core.Path.{◌≡◌, refl, ◌∙◌}
-use mathlib.Core.List.{◌∷◌}
 use native.Mathlib.Numerals.{add-one}
 use native.Mathlib.Omega.{arith}
-use lib.ListN.{get_or, length, length-set}
-use Rattle.miss_record.proofs.Moved.{moved, moved-read, moved-turn, moved-end}
+use lib.ListN.{length, length-set}
+use Rattle.miss_record.proofs.Moved.{moved-read, moved-turn, moved-end}
 use Rattle.miss_record.proofs.turn.Goals as goal
 
 pub loop-i-init : goal.loop-i-init
@@ -27,6 +26,6 @@ returns c =
     let l = c.loop-i in
     let a = c.args in
     let e : l.i ≡ 15 = omega arith in record {
-  words = rw e at l.invariant.2 ∙ moved-end a.first a.words.now 14 c.requires;
-  last = rw e at l.invariant.3;
-}
+      words = rw e at l.invariant.2 ∙ moved-end a.first a.words.now 14 c.requires;
+      last = rw e at l.invariant.3;
+    }
