@@ -22,8 +22,8 @@
  * Nothing else is asked. No call allocates, keeps a pointer, has hidden state, or does input or output: calls on different states may run
  * in different threads at the same time.
  *
- * Link with libt1mmu.a (x86-64 Linux), which is written by `rt staticlib t1mmu` to target/staticlib; for the two calls of the miss
- * handler with libt1mmu_miss.a, too (`rt staticlib t1mmu_miss`). Of the C library they call memset alone.
+ * Link with libt1mmu.a (x86-64 Linux), which `rt lib` in crates/t1mmu writes to crates/t1mmu/out; for the two calls of the miss
+ * handler with libt1mmu_miss.a, too (of crates/t1mmu_miss). Of the C library they call memset alone.
  */
 #ifndef T1MMU_H
 #define T1MMU_H

@@ -12,7 +12,7 @@ fn main() {
     for name in ["t1mmu", "t1mmu_miss"] {
         let archive = folder.join(format!("lib{name}.a"));
         if !archive.is_file() {
-            println!("cargo:warning={} is not there: `rt staticlib {name}` writes it", archive.display());
+            println!("cargo:warning={} is not there: `bash examples/run.sh` builds it", archive.display());
         }
         println!("cargo:rerun-if-changed={}", archive.display());
         println!("cargo:rustc-link-lib=static={name}");
