@@ -61,13 +61,7 @@ pub struct Counted {
     pub compared: usize,
 }
 
-pub fn search_count(
-    slots: &[u64],
-    real: u8,
-    partition: u64,
-    context: u64,
-    address: u64,
-) -> Counted
+pub fn search_count(slots: &[u64], real: u8, partition: u64, context: u64, address: u64) -> Counted
     ensures { result ≡ counted_of (key_of (eqb real 1) partition context (record { 0 = address })) (slots_of slots.now) }
 {
     let key = operands::key_for(real == 1, partition, context, VirtualAddress(address));

@@ -1,0 +1,6 @@
+-- `tsb::tsb_base` meets its contract: by the contracts of its calls.
+use mathlib.Core.Path.{◌∙◌}
+use Rattle.tsb.proofs.tsb_base.Goals as goal
+
+pub returns : goal.returns
+returns c = c.read_register.ensures ∙ rw (c.other_set-other.ensures.0, c.miss_context.ensures)
