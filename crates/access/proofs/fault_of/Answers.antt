@@ -4,14 +4,12 @@ use mathlib.Core.Path.{◌≡◌, sym, ◌∙◌}
 use mathlib.Core.Bool.{true, not, ◌&&◌, and-false}
 use native.Mathlib.Omega.{arith}
 use lib.Dec.{eqb}
-use borrow.Author.Rules.{rules}
 use borrow.Author.Tests.{eqb-true, not-true}
 use Rattle.laws.proofs.Bools.{and_left, and_right}
 use Rattle.machine.specs.Words.{bits}
 use Rattle.machine.specs.Access.{fault_type}
 use Rattle.access.specs.Faults.{is_set, faultless}
-use Rattle.access.proofs.fault_of.Statement.{statement}
-use Rattle.access.proofs.fault_of.Tie as tie
+use Rattle.access.proofs.fault_of.Goals as goal
 
 -- a word that is found faultless earns nothing
 none : (mode kind word : ℕ) → faultless word ≡ true → fault_type mode kind word ≡ 0
@@ -29,43 +27,26 @@ none mode kind word h =
       and-false (eqb kind 4),
     )
 
-returns : tie.Need-returns
-returns c = (sym (none _ _ _ (sym c.before.is-faultless.ensures ∙ c.if1.true)), omega arith)
+pub returns-then-is_faultless : goal.returns-then-is_faultless
+returns-then-is_faultless c =
+    record {
+      fault = sym (none _ _ _ (sym c.is_faultless.ensures ∙ c.if-is_faultless.true));
+      small = omega arith;
+    }
 
-returns-2 : tie.Need-returns-2
+pub returns : goal.returns
 unfolding fault_type
-returns-2 c =
-    let three = c.before.before in
-    let two = three.before.before in
-    let one = two.before.before in (
-      rw (
-        one.share.ensures.0,
-        one.before.bit-of.ensures,
-        two.share2.ensures.0,
-        two.before.bit-of2.ensures,
-        three.share3.ensures.0,
-        three.before.bit-of3.ensures,
-        c.share4.ensures.0,
-        c.before.bit-of4.ensures,
-      ),
-      omega arith,
-    )
-
-pub fault-of-spec : {M : Type 1} → statement M
-fault-of-spec =
-    tie.close
-    (tie.spec
-    (λ c κs. search rules)
-    returns
-    (λ c κs. search rules)
-    (λ c κs. search rules)
-    (λ c κs. search rules)
-    (λ c κs. search rules)
-    (λ c κs. search rules)
-    (λ c κs. search rules)
-    (λ c κs. search rules)
-    (λ c κs. search rules)
-    (λ c. search rules)
-    (λ c. search rules)
-    (λ c. search rules)
-    returns-2)
+returns c =
+    record {
+      fault = rw (
+        c.share-privileged.ensures.sum,
+        c.bit_of.ensures,
+        c.share-side_effect.ensures.sum,
+        c.bit_of-2.ensures,
+        c.share-uncached.ensures.sum,
+        c.bit_of-3.ensures,
+        c.share-no_fault_only.ensures.sum,
+        c.bit_of-4.ensures,
+      );
+      small = omega arith;
+    }

@@ -1,0 +1,58 @@
+-- `access::settle_hit` meets its contract.
+use Prim.Native.Nat.{ℕ}
+use mathlib.Core.List.{List}
+use mathlib.Core.Path.{◌≡◌, sym, ◌∙◌}
+use native.Mathlib.Omega.{arith}
+use lib.ListN.{length-set, get_or}
+use Rattle.machine.specs.Access.{judge}
+use Rattle.machine.specs.Slots.{no_slot, key_address, within, page_match, set_used}
+use Rattle.machine.specs.State.{counts, State, state_in, side_of, with_side, encode}
+use Rattle.machine.specs.declared.Slot.{Slot}
+use Rattle.state.specs.Calls.{Lent}
+use Rattle.state.proofs.Parts.{sized-words, sized-side, sized-with_side}
+use Rattle.access.proofs.Laws.{left_back}
+use Rattle.access.proofs.settle_hit.Goals as goal
+
+-- the state with the found entry marked
+marked : (words : List ℕ) (side i : ℕ) {left : List ℕ} → Lent words
+    → (let u = state_in words in
+    left ≡ encode (with_side u side (set_used i (side_of u side))) → state_in left ≡ with_side u side (set_used i (side_of u side)))
+marked words side i h e =
+    let u : State = state_in words in
+    let z = sized-words counts words h in
+    let l = length-set (side_of u side) i _ ∙ sized-side counts u z side in
+    left_back (sized-with_side counts u z side _ l) e
+
+pub reach_of-reach-requires : goal.reach_of-reach-requires
+reach_of-reach-requires c = rw (c.slot_of-x.ensures, c.key_address.ensures) c.requires.4
+
+pub take_tagged-requires : goal.take_tagged-requires
+take_tagged-requires c =
+    let back = marked c.args.state.now c.args.a.side c.args.i c.requires.0 c.mark_used.ensures in
+    (omega arith, c.requires.1, rw c.in-Faulted.is at c.judge_word-judged.ensures.fits, rw back c.requires.3)
+
+pub translated_by-requires : goal.translated_by-requires
+translated_by-requires c = c.reach_of-reach.ensures.small
+
+pub returns-in-Faulted : goal.returns-in-Faulted
+returns-in-Faulted c =
+    -- the found slot
+    let slot : Slot = get_or (side_of (state_in c.args.state.now) c.args.a.side) c.args.i no_slot in
+    -- the one match
+    let matched : page_match slot (key_address c.args.key) ≡ within c.reach_of-reach.result =
+    rw (c.slot_of-x.ensures, c.key_address.ensures) at c.reach_of-reach.ensures.matched in
+    -- what the found entry's word says
+    let verdict : judge (state_in c.args.state.now).registers c.args.a slot.word ≡ c.judge_word-judged.result =
+    sym (c.judge_word-judged.ensures.judged ∙ rw c.slot_of-x.ensures) in
+    let back = marked c.args.state.now c.args.a.side c.args.i c.requires.0 c.mark_used.ensures in
+    rw (matched, verdict ∙ c.in-Faulted.is) (rw back at c.take_tagged.ensures)
+
+pub returns-in-Permitted : goal.returns-in-Permitted
+returns-in-Permitted c =
+    let slot : Slot = get_or (side_of (state_in c.args.state.now) c.args.a.side) c.args.i no_slot in
+    let matched : page_match slot (key_address c.args.key) ≡ within c.reach_of-reach.result =
+    rw (c.slot_of-x.ensures, c.key_address.ensures) at c.reach_of-reach.ensures.matched in
+    let verdict : judge (state_in c.args.state.now).registers c.args.a slot.word ≡ c.judge_word-judged.result =
+    sym (c.judge_word-judged.ensures.judged ∙ rw c.slot_of-x.ensures) in
+    rw (matched, verdict ∙ c.in-Permitted.is)
+    (record { words = c.mark_used.ensures; answer = rw (c.translated_by.ensures, c.slot_of-x.ensures) })
