@@ -1,9 +1,9 @@
 -- Questions one after another: those that are left decide. Assumes nothing.
 use Prim.Native.Nat.{ℕ, ◌<◌}
 use mathlib.Core.Path.{◌≡◌, refl, sym, ◌∙◌}
-use mathlib.Core.Bool.{Bool, true, false, not}
+use mathlib.Core.Bool.{Bool, true, false}
 use mathlib.Core.List.{List, [], ◌∷◌, ◌++◌}
-use borrow.Author.Tests.{not-true, not-false, ltb-true}
+use borrow.Author.Tests.{ltb-true}
 use lib.ListN.{drop}
 use Rattle.laws.specs.Tests.{all_of}
 use Rattle.laws.proofs.Bools.{by-test, and_left, and_right}
@@ -75,8 +75,8 @@ there strand side rest p e = let q = ask-fine (asked_side strand side ++ rest) (
 
 -- what a call says of a question, as the code tests it
 module _ {t b : Bool} (e : t ≡ b) where
-  pub held : not t ≡ false → b ≡ true
-  held h = sym e ∙ not-false t h
+  pub held : t ≡ true → b ≡ true
+  held h = sym e ∙ h
 
-  pub failed : not t ≡ true → b ≡ false
-  failed h = sym e ∙ not-true t h
+  pub failed : t ≡ false → b ≡ false
+  failed h = sym e ∙ h

@@ -1,0 +1,142 @@
+-- `questions::ask_insert` meets its contract: 5 and 6, then its own, question by question.
+use Prim.Native.Nat.{ℕ, ◌<◌}
+use mathlib.Core.Path.{◌≡◌}
+use mathlib.Core.Bool.{Bool, true}
+use mathlib.Core.List.{[]}
+use borrow.Author.Tests.{lt-ltb, le-ltb}
+use lib.Dec.{leb, eqb}
+use Rattle.machine.specs.Pages.{in_range}
+use Rattle.machine.specs.Words.{word_insertable}
+use Rattle.machine.specs.Registers.{mode, tag_access, tag_address}
+use Rattle.machine.specs.Permission.{permitted, least_mode}
+use Rattle.machine.specs.Insertion.{candidate, has_slot}
+use Rattle.machine.specs.State.{State, state_in, side_of}
+use Rattle.machine.specs.Questions.{asked, asked_insertion, insertion, ask}
+use Rattle.machine.specs.declared.Command.TheVariants as command
+use Rattle.machine.specs.declared.Verdict.{Verdict}
+use Rattle.machine.specs.declared.Verdict.TheVariants.{Passed}
+use Rattle.questions.specs.Verdicts.{asked_side}
+use Rattle.questions.proofs.Asks.{After, all, yes, no, none, passed, refused, there, held, failed}
+use Rattle.questions.proofs.ask_insert.Goals as goal
+
+module _ (hv : Bool) (u : State) (strand side flags word : ℕ) where
+  abbrev Past : ℕ → Type 0
+  Past = After hv u (command.Insert strand side flags word)
+
+  left-2 : {v : Verdict} → v ≡ ask (asked_side strand side) → v ≡ Passed → Past 2
+  unfolding asked asked_insertion
+  left-2 p e = passed (asked_side strand side) _ p e (all hv _ _)
+
+  left-3 : Past 2 → flags < 4 → Past 3
+  unfolding asked asked_insertion
+  left-3 l h = yes l (lt-ltb _ 4 h)
+
+  left-4 : Past 3 → leb (least_mode (eqb flags 0)) (mode u.registers strand) ≡ true → Past 4
+  unfolding asked asked_insertion permitted
+  left-4 l h = yes l h
+
+  left-5 : Past 4 → in_range (tag_address (tag_access u.registers strand side)).0 ≡ true → Past 5
+  unfolding asked asked_insertion
+  left-5 l h = yes l h
+
+  left-6 : Past 5 → word_insertable word ≡ true → Past 6
+  unfolding asked asked_insertion
+  left-6 l h = yes l h
+
+pub returns-in-Refused : goal.returns-in-Refused
+unfolding asked asked_insertion
+returns-in-Refused c hv =
+    let a = c.args in
+    refused (asked_side a.strand a.side) _ c.ask_side.ensures c.in-Refused.is (all hv _ _)
+
+pub returns-then-flags-ge4 : goal.returns-then-flags-ge4
+unfolding asked asked_insertion permitted
+returns-then-flags-ge4 c hv =
+    let a = c.args in
+    no (left-2 hv _ a.strand a.side a.flags a.word c.ask_side.ensures c.in_default.is) (le-ltb _ 4 c.if-flags-ge4.true)
+
+-- here and below, the words are lent, and strand and side are there
+pub mode_allows-requires : goal.mode_allows-requires
+mode_allows-requires c =
+    let a = c.args in
+    (c.requires, (there a.strand a.side [] c.ask_side.ensures c.in_default.is).0)
+
+pub returns-then-not-mode_allows : goal.returns-then-not-mode_allows
+unfolding asked asked_insertion permitted
+returns-then-not-mode_allows c hv =
+    let a = c.args in
+    let u = state_in a.state.now in
+    let l3 = left-3 hv u a.strand a.side a.flags a.word (left-2 hv u a.strand a.side a.flags a.word c.ask_side.ensures c.in_default.is) c.if-flags-ge4.false in
+    no l3 (failed c.mode_allows.ensures c.if-not-mode_allows.true)
+
+pub tag_of-requires : goal.tag_of-requires
+tag_of-requires c =
+    let a = c.args in
+    let at = there a.strand a.side [] c.ask_side.ensures c.in_default.is in
+    (c.requires, at.0, at.1)
+
+-- the code asks of the address what the definition asks ..
+pub returns-then-not-in_range : goal.returns-then-not-in_range
+unfolding asked asked_insertion permitted
+returns-then-not-in_range c hv =
+    let a = c.args in
+    let u = state_in a.state.now in
+    let l3 = left-3 hv u a.strand a.side a.flags a.word (left-2 hv u a.strand a.side a.flags a.word c.ask_side.ensures c.in_default.is) c.if-flags-ge4.false in
+    let l4 = left-4 hv u a.strand a.side a.flags a.word l3 (held c.mode_allows.ensures c.if-not-mode_allows.false) in
+    let address : c.in_range.result ≡ in_range (tag_address (tag_access u.registers a.strand a.side)).0 =
+    rw (c.tag_address.ensures, c.tag_of.ensures) at c.in_range.ensures in
+    no l4 (failed address c.if-not-in_range.true)
+
+pub returns-then-not-word_insertable : goal.returns-then-not-word_insertable
+unfolding asked asked_insertion permitted
+returns-then-not-word_insertable c hv =
+    let a = c.args in
+    let u = state_in a.state.now in
+    let l3 = left-3 hv u a.strand a.side a.flags a.word (left-2 hv u a.strand a.side a.flags a.word c.ask_side.ensures c.in_default.is) c.if-flags-ge4.false in
+    let l4 = left-4 hv u a.strand a.side a.flags a.word l3 (held c.mode_allows.ensures c.if-not-mode_allows.false) in
+    let address : c.in_range.result ≡ in_range (tag_address (tag_access u.registers a.strand a.side)).0 =
+    rw (c.tag_address.ensures, c.tag_of.ensures) at c.in_range.ensures in
+    let l5 = left-5 hv u a.strand a.side a.flags a.word l4 (held address c.if-not-in_range.false) in
+    no l5 (failed c.word_insertable.ensures.insertable c.if-not-word_insertable.true)
+
+pub entry_for-requires : goal.entry_for-requires
+entry_for-requires c =
+    let a = c.args in
+    let at = there a.strand a.side [] c.ask_side.ensures c.in_default.is in
+    (c.requires, at.0, at.1)
+
+pub slot_to_be_had-requires : goal.slot_to_be_had-requires
+slot_to_be_had-requires c =
+    let a = c.args in
+    (c.requires, (there a.strand a.side [] c.ask_side.ensures c.in_default.is).1)
+
+-- .. and of the slots
+pub returns-then-not-slot_to_be_had : goal.returns-then-not-slot_to_be_had
+unfolding asked asked_insertion permitted
+returns-then-not-slot_to_be_had c hv =
+    let a = c.args in
+    let u = state_in a.state.now in
+    let l3 = left-3 hv u a.strand a.side a.flags a.word (left-2 hv u a.strand a.side a.flags a.word c.ask_side.ensures c.in_default.is) c.if-flags-ge4.false in
+    let l4 = left-4 hv u a.strand a.side a.flags a.word l3 (held c.mode_allows.ensures c.if-not-mode_allows.false) in
+    let address : c.in_range.result ≡ in_range (tag_address (tag_access u.registers a.strand a.side)).0 =
+    rw (c.tag_address.ensures, c.tag_of.ensures) at c.in_range.ensures in
+    let l5 = left-5 hv u a.strand a.side a.flags a.word l4 (held address c.if-not-in_range.false) in
+    let l6 = left-6 hv u a.strand a.side a.flags a.word l5 (held c.word_insertable.ensures.insertable c.if-not-word_insertable.false) in
+    let slot : c.slot_to_be_had.result ≡ has_slot candidate (insertion u a.strand a.side a.flags a.word) (side_of u a.side) =
+    rw c.entry_for.ensures at c.slot_to_be_had.ensures in
+    no l6 (failed slot c.if-not-slot_to_be_had.true)
+
+pub returns : goal.returns
+unfolding asked asked_insertion permitted
+returns c hv =
+    let a = c.args in
+    let u = state_in a.state.now in
+    let l3 = left-3 hv u a.strand a.side a.flags a.word (left-2 hv u a.strand a.side a.flags a.word c.ask_side.ensures c.in_default.is) c.if-flags-ge4.false in
+    let l4 = left-4 hv u a.strand a.side a.flags a.word l3 (held c.mode_allows.ensures c.if-not-mode_allows.false) in
+    let address : c.in_range.result ≡ in_range (tag_address (tag_access u.registers a.strand a.side)).0 =
+    rw (c.tag_address.ensures, c.tag_of.ensures) at c.in_range.ensures in
+    let l5 = left-5 hv u a.strand a.side a.flags a.word l4 (held address c.if-not-in_range.false) in
+    let l6 = left-6 hv u a.strand a.side a.flags a.word l5 (held c.word_insertable.ensures.insertable c.if-not-word_insertable.false) in
+    let slot : c.slot_to_be_had.result ≡ has_slot candidate (insertion u a.strand a.side a.flags a.word) (side_of u a.side) =
+    rw c.entry_for.ensures at c.slot_to_be_had.ensures in
+    none (yes l6 (held slot c.if-not-slot_to_be_had.false))
