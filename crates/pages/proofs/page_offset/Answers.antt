@@ -1,5 +1,4 @@
 -- `pages::page_offset` meets its contract: the offset is the address's bits below the page's start.
-use borrow.Author.Rules.{rules}
 use lib.Bits.{and_mask}
 use Rattle.machine.specs.Pages.{page_shift}
 use Rattle.pages.proofs.page_offset.Goals as goal

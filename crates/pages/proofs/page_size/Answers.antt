@@ -1,7 +1,6 @@
 -- `pages::page_size` meets its contract: the bit does not leave the word.
 use mathlib.Core.Path.{◌∙◌}
 use native.Mathlib.Omega.{arith}
-use borrow.Author.Rules.{rules}
 use lib.Dec.{lit<}
 use lib.Pow.{shl_exact}
 use Rattle.machine.specs.Pages.{page_shift}

@@ -1,6 +1,5 @@
 -- `pages::page_start` meets its contract: an address is its page's start and the offset.
 use native.Mathlib.Omega.{arith}
-use borrow.Author.Rules.{rules}
 use lib.Pow.{split}
 use Rattle.machine.specs.Pages.{page_shift}
 use Rattle.pages.proofs.page_start.Goals as goal
