@@ -24,7 +24,7 @@ use Rattle.machine.specs.Frame.{LivesIn, Removes, invalidated, overlapped, demap
 use Rattle.machine.specs.Good.{ReferenceGood, GoodWords}
 use Rattle.machine.specs.Reference.{displaced_name, reference_next, reference_after}
 use Rattle.machine.specs.Extent.{disturbs}
-use Rattle.machine.specs.Guests.{names, Named, Guests, Confined, Unmarked, none, run, GuestsConfined}
+use Rattle.machine.specs.Guests.{names, Named, Guests, Confined, Unmarked, none, run, GuestsConfined, is_invalidation, MarkAlone}
 use Rattle.machine.specs.declared.Slot.{Slot}
 use Rattle.machine.specs.declared.Command.{Command}
 use Rattle.machine.specs.declared.Command.TheVariants as command
@@ -195,3 +195,20 @@ module _ (n : Counts) where
 
 pub guests-sold : GuestsConfined slots
 guests-sold = rw both-sides at (guests-confined counts)
+
+-- ---- the stream's mark
+others-alike : (hv : Bool) (l : Ledger) (c : Command) → is_invalidation c ≡ false → questions hv l c ≡ questions false l c
+unfolding is_invalidation questions
+others-alike hv l (command.Write strand number value) e = refl
+others-alike hv l (command.Insert strand side flags word) e = refl
+others-alike hv l (command.DemapPage strand side selector flags address) e = refl
+others-alike hv l (command.DemapContext strand side selector) e = refl
+others-alike hv l (command.DemapAll strand side) e = refl
+others-alike hv l (command.Invalidate side) e = clash refl e
+others-alike hv l (command.Access strand kind selector size address) e = refl
+others-alike hv l (command.Read strand number) e = refl
+others-alike hv l (command.Pointers strand side) e = refl
+others-alike hv l (command.Rate strand side) e = refl
+
+pub mark-alone : MarkAlone
+mark-alone = record { others = others-alike }

@@ -31,4 +31,5 @@ pub mod Demand2
 pub mod Frame
 pub mod Lookups
 pub mod Guests
+pub mod Host
 pub mod Format

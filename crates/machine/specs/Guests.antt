@@ -3,7 +3,7 @@
 use Rattle.std.specs.Prelude.{ℕ, ◌≤◌, ◌<◌, ◌≡◌, Bool, true, false, List, [], ◌++◌, eqb, length}
 use Rattle.laws.specs.Passing.{how_many}
 use Rattle.machine.specs.Stream.{Bytes}
-use Rattle.machine.specs.Ledger.{Entry, Ledger}
+use Rattle.machine.specs.Ledger.{Entry, Ledger, questions}
 use Rattle.machine.specs.Places.{Reference, reference_words}
 use Rattle.machine.specs.Format.{Reading, ReadAs}
 use Rattle.machine.specs.Demand3.{Live}
@@ -59,3 +59,20 @@ pub record GuestsConfined (n : ℕ → ℕ) : Type 0 where
   -- and sound ones are at the end those of the ledger that took the commands; where these are guests', they are confined
   pub sound : {words last : List ℕ} {cs : List Command} → Unmarked n words cs last → (k : Reference) → ReferenceGood n k → words ≡ reference_words k
       → (last ≡ reference_words (reference_after false n k cs)) × (Guests k.ledger cs → Confined k.ledger cs (reference_after false n k cs).ledger)
+
+-- ---- the stream's mark
+unfoldable pub is_invalidation : Command → Bool
+is_invalidation (command.Write strand number value) = false
+is_invalidation (command.Insert strand side flags word) = false
+is_invalidation (command.DemapPage strand side selector flags address) = false
+is_invalidation (command.DemapContext strand side selector) = false
+is_invalidation (command.DemapAll strand side) = false
+is_invalidation (command.Invalidate side) = true
+is_invalidation (command.Access strand kind selector size address) = false
+is_invalidation (command.Read strand number) = false
+is_invalidation (command.Pointers strand side) = false
+is_invalidation (command.Rate strand side) = false
+
+-- of every other command a marked stream is asked what an unmarked one is
+pub record MarkAlone : Type 0 where
+  pub others : (hv : Bool) (l : Ledger) (c : Command) → is_invalidation c ≡ false → questions hv l c ≡ questions false l c

@@ -27,4 +27,6 @@ pub mod Examples
 pub mod Frame
 pub mod Lookups
 pub mod Guests
+pub mod Host
 pub mod Format
+pub mod Runs

@@ -1,7 +1,7 @@
 // What a buyer must believe: the declared types, the definitions in specs/ and the theorems on them.
 #![tactic(auto)]
 
-ghost use Rattle.std.specs.Prelude.{◌≡◌, length};
+ghost use Rattle.std.specs.Prelude.{◌≡◌, ℕ, length};
 ghost use Rattle.machine.specs.State.{Counts, counts, slot_count};
 ghost use Rattle.machine.specs.Stream.{answer_bytes};
 ghost use Rattle.machine.specs.declared.Answer.{Answer};
@@ -16,7 +16,9 @@ ghost use Rattle.machine.specs.Examples.{Starred, PrintedRun};
 ghost use Rattle.machine.specs.Format.{Readable, Decodes};
 ghost use Rattle.machine.specs.Searches.{Searches};
 ghost use Rattle.machine.specs.Extent.{Extent};
-ghost use Rattle.machine.specs.Guests.{GuestsConfined};
+ghost use Rattle.machine.specs.Guests.{GuestsConfined, MarkAlone};
+ghost use Rattle.machine.specs.Host.{HostTold};
+ghost use Rattle.machine.specs.Runs.{Runs};
 
 use laws::Found;
 
@@ -399,9 +401,12 @@ pub fn answer_width() -> usize
     ensures lookups { Lookups }
     ensures extent { (n : Counts) → Extent n }
     ensures guests { (n : Counts) → GuestsConfined (slot_count n) }
+    ensures mark { MarkAlone }
+    ensures host { (n : ℕ → ℕ) → HostTold n }
     ensures decodes { Decodes }
     ensures starred { Starred }
     ensures printed { PrintedRun }
+    ensures runs { Runs }
 {
     ANSWER_BYTES
 }

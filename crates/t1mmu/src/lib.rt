@@ -11,7 +11,7 @@ ghost use Rattle.machine.specs.Places.{slots, reference_start, reference_words};
 ghost use Rattle.machine.specs.Reference.{RunTold, ResetTold, Told};
 ghost use Rattle.machine.specs.Demand2.{IsBits, HasBits, Fields};
 ghost use Rattle.machine.specs.Demand3.{Demand3};
-ghost use Rattle.machine.specs.Guests.{GuestsConfined};
+ghost use Rattle.machine.specs.Guests.{GuestsConfined, MarkAlone};
 ghost use Rattle.t1mmu.specs.Equal.{Equal};
 ghost use Rattle.t1mmu.specs.Version.{version};
 
@@ -56,6 +56,7 @@ pub extern "C" fn t1mmu_run(state: &mut [u64], input: &[u8], output: &mut [u8]) 
     ensures lists { Told counts slots }
     ensures demand3 { Demand3 counts }
     ensures guests { GuestsConfined slots }
+    ensures mark { MarkAlone }
 {
     stream::run(state, input, output, false)
 }
@@ -70,6 +71,7 @@ pub extern "C" fn t1mmu_run_hypervisor(state: &mut [u64], input: &[u8], output: 
         state.new output.new result }
     ensures lists { Told counts slots }
     ensures demand3 { Demand3 counts }
+    ensures mark { MarkAlone }
 {
     stream::run(state, input, output, true)
 }

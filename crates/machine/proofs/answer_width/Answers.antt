@@ -12,11 +12,12 @@ use Rattle.machine.proofs.Reference.{told, sold}
 use Rattle.machine.proofs.Examples.{starred}
 use Rattle.machine.proofs.Format.{decodes}
 use Rattle.machine.proofs.Frame.{framed}
-use Rattle.machine.proofs.Printed.{printed-run}
+use Rattle.machine.proofs.Printed.{printed-run, runs}
 use Rattle.machine.proofs.Searches.{searches}
 use Rattle.machine.proofs.Lookups.{lookups}
 use Rattle.machine.proofs.Extent.{extent}
-use Rattle.machine.proofs.Guests.{guests-confined}
+use Rattle.machine.proofs.Guests.{guests-confined, mark-alone}
+use Rattle.machine.proofs.Host.{host-told}
 use Rattle.machine.proofs.answer_width.Goals as goal
 
 kept : SoundKept
@@ -42,7 +43,10 @@ returns c = record {
   lookups = lookups;
   extent = extent;
   guests = guests-confined;
+  mark = mark-alone;
+  host = host-told;
   decodes = decodes;
   starred = starred;
   printed = printed-run;
+  runs = runs;
 }
