@@ -52,7 +52,7 @@ returns-then-not-in_range c =
         ← c.read_register-mode.ensures,
         ← c.is_user_nucleus.ensures,
         c.if-is_user_nucleus.false,
-        ne_eqb _ _ c.if-mode-eq-HYPERPRIVILEGED.false,
+        ne_eqb c.read_register-mode.result 2 (λ e. omega arith),
         ← c.in_range.ensures,
         c.if-not-in_range.true,
         c.exception_of.ensures.trap,
@@ -71,7 +71,7 @@ returns c =
         ← c.read_register-mode.ensures,
         ← c.is_user_nucleus.ensures,
         c.if-is_user_nucleus.false,
-        ne_eqb _ _ c.if-mode-eq-HYPERPRIVILEGED.false,
+        ne_eqb c.read_register-mode.result 2 (λ e. omega arith),
         ← c.in_range.ensures,
         c.if-not-in_range.false,
       );

@@ -1,4 +1,5 @@
 -- `questions::ask_access` meets its contract, question by question; number 7 is asked in two tests.
+use native.Mathlib.Omega.{arith}
 use mathlib.Core.Path.{◌≡◌}
 use borrow.Author.Tests.{lt-ltb, le-ltb}
 use Rattle.machine.specs.Questions.{asked, selector_fits, kind_side}
@@ -18,21 +19,21 @@ pub returns-then-not-selector_fits : goal.returns-then-not-selector_fits
 unfolding asked
 returns-then-not-selector_fits c hv =
     let side : c.selector_fits.result ≡ selector_fits (kind_side c.args.kind) c.args.selector = rw c.access_side.ensures at c.selector_fits.ensures in
-    no (yes (yes (all hv _ _) (lt-ltb _ 4 c.if-strand-ge4.false)) (lt-ltb _ 5 c.if-kind-ge5.false))
+    no (yes (yes (all hv _ _) (lt-ltb _ 4 c.if-strand-ge4.false)) (lt-ltb _ 5 (omega arith)))
     (rw (failed side c.if-not-selector_fits.true))
 
 pub returns-then-is_nucleus_fetch : goal.returns-then-is_nucleus_fetch
 unfolding asked
 returns-then-is_nucleus_fetch c hv =
     let side : c.selector_fits.result ≡ selector_fits (kind_side c.args.kind) c.args.selector = rw c.access_side.ensures at c.selector_fits.ensures in
-    no (yes (yes (all hv _ _) (lt-ltb _ 4 c.if-strand-ge4.false)) (lt-ltb _ 5 c.if-kind-ge5.false))
+    no (yes (yes (all hv _ _) (lt-ltb _ 4 c.if-strand-ge4.false)) (lt-ltb _ 5 (omega arith)))
     (rw (held side c.if-not-selector_fits.false, held c.is_nucleus_fetch.ensures c.if-is_nucleus_fetch.true))
 
 pub returns-then-not-size_fits : goal.returns-then-not-size_fits
 unfolding asked
 returns-then-not-size_fits c hv =
     let side : c.selector_fits.result ≡ selector_fits (kind_side c.args.kind) c.args.selector = rw c.access_side.ensures at c.selector_fits.ensures in
-    no (yes (yes (yes (all hv _ _) (lt-ltb _ 4 c.if-strand-ge4.false)) (lt-ltb _ 5 c.if-kind-ge5.false))
+    no (yes (yes (yes (all hv _ _) (lt-ltb _ 4 c.if-strand-ge4.false)) (lt-ltb _ 5 (omega arith)))
     (rw (held side c.if-not-selector_fits.false, failed c.is_nucleus_fetch.ensures c.if-is_nucleus_fetch.false)))
     (failed c.size_fits.ensures c.if-not-size_fits.true)
 
@@ -40,6 +41,6 @@ pub returns : goal.returns
 unfolding asked
 returns c hv =
     let side : c.selector_fits.result ≡ selector_fits (kind_side c.args.kind) c.args.selector = rw c.access_side.ensures at c.selector_fits.ensures in
-    none (yes (yes (yes (yes (all hv _ _) (lt-ltb _ 4 c.if-strand-ge4.false)) (lt-ltb _ 5 c.if-kind-ge5.false))
+    none (yes (yes (yes (yes (all hv _ _) (lt-ltb _ 4 c.if-strand-ge4.false)) (lt-ltb _ 5 (omega arith)))
     (rw (held side c.if-not-selector_fits.false, failed c.is_nucleus_fetch.ensures c.if-is_nucleus_fetch.false)))
     (held c.size_fits.ensures c.if-not-size_fits.false))

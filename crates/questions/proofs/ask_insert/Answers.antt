@@ -1,4 +1,5 @@
 -- `questions::ask_insert` meets its contract: 5 and 6, then its own, question by question.
+use native.Mathlib.Omega.{arith}
 use Prim.Native.Nat.{ℕ, ◌<◌}
 use mathlib.Core.Path.{◌≡◌}
 use mathlib.Core.Bool.{Bool, true}
@@ -66,7 +67,7 @@ unfolding asked asked_insertion permitted
 returns-then-not-mode_allows c hv =
     let a = c.args in
     let u = state_in a.state.now in
-    let l3 = left-3 hv u a.strand a.side a.flags a.word (left-2 hv u a.strand a.side a.flags a.word c.ask_side.ensures c.in_default.is) c.if-flags-ge4.false in
+    let l3 = left-3 hv u a.strand a.side a.flags a.word (left-2 hv u a.strand a.side a.flags a.word c.ask_side.ensures c.in_default.is) (omega arith) in
     no l3 (failed c.mode_allows.ensures c.if-not-mode_allows.true)
 
 pub tag_of-requires : goal.tag_of-requires
@@ -81,7 +82,7 @@ unfolding asked asked_insertion permitted
 returns-then-not-in_range c hv =
     let a = c.args in
     let u = state_in a.state.now in
-    let l3 = left-3 hv u a.strand a.side a.flags a.word (left-2 hv u a.strand a.side a.flags a.word c.ask_side.ensures c.in_default.is) c.if-flags-ge4.false in
+    let l3 = left-3 hv u a.strand a.side a.flags a.word (left-2 hv u a.strand a.side a.flags a.word c.ask_side.ensures c.in_default.is) (omega arith) in
     let l4 = left-4 hv u a.strand a.side a.flags a.word l3 (held c.mode_allows.ensures c.if-not-mode_allows.false) in
     let address : c.in_range.result ≡ in_range (tag_address (tag_access u.registers a.strand a.side)).0 =
     rw (c.tag_address.ensures, c.tag_of.ensures) at c.in_range.ensures in
@@ -92,7 +93,7 @@ unfolding asked asked_insertion permitted
 returns-then-not-word_insertable c hv =
     let a = c.args in
     let u = state_in a.state.now in
-    let l3 = left-3 hv u a.strand a.side a.flags a.word (left-2 hv u a.strand a.side a.flags a.word c.ask_side.ensures c.in_default.is) c.if-flags-ge4.false in
+    let l3 = left-3 hv u a.strand a.side a.flags a.word (left-2 hv u a.strand a.side a.flags a.word c.ask_side.ensures c.in_default.is) (omega arith) in
     let l4 = left-4 hv u a.strand a.side a.flags a.word l3 (held c.mode_allows.ensures c.if-not-mode_allows.false) in
     let address : c.in_range.result ≡ in_range (tag_address (tag_access u.registers a.strand a.side)).0 =
     rw (c.tag_address.ensures, c.tag_of.ensures) at c.in_range.ensures in
@@ -116,7 +117,7 @@ unfolding asked asked_insertion permitted
 returns-then-not-slot_to_be_had c hv =
     let a = c.args in
     let u = state_in a.state.now in
-    let l3 = left-3 hv u a.strand a.side a.flags a.word (left-2 hv u a.strand a.side a.flags a.word c.ask_side.ensures c.in_default.is) c.if-flags-ge4.false in
+    let l3 = left-3 hv u a.strand a.side a.flags a.word (left-2 hv u a.strand a.side a.flags a.word c.ask_side.ensures c.in_default.is) (omega arith) in
     let l4 = left-4 hv u a.strand a.side a.flags a.word l3 (held c.mode_allows.ensures c.if-not-mode_allows.false) in
     let address : c.in_range.result ≡ in_range (tag_address (tag_access u.registers a.strand a.side)).0 =
     rw (c.tag_address.ensures, c.tag_of.ensures) at c.in_range.ensures in
@@ -131,7 +132,7 @@ unfolding asked asked_insertion permitted
 returns c hv =
     let a = c.args in
     let u = state_in a.state.now in
-    let l3 = left-3 hv u a.strand a.side a.flags a.word (left-2 hv u a.strand a.side a.flags a.word c.ask_side.ensures c.in_default.is) c.if-flags-ge4.false in
+    let l3 = left-3 hv u a.strand a.side a.flags a.word (left-2 hv u a.strand a.side a.flags a.word c.ask_side.ensures c.in_default.is) (omega arith) in
     let l4 = left-4 hv u a.strand a.side a.flags a.word l3 (held c.mode_allows.ensures c.if-not-mode_allows.false) in
     let address : c.in_range.result ≡ in_range (tag_address (tag_access u.registers a.strand a.side)).0 =
     rw (c.tag_address.ensures, c.tag_of.ensures) at c.in_range.ensures in
