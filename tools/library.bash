@@ -38,10 +38,11 @@ tell_failure() { # LOG
     exit 1
 }
 
-# Whether the crate has been proved since its files, crates.txt or a crate below it changed.
+# Whether the crate has been proved by this toolchain since its files, crates.txt or a crate below it changed. A stamp has the time at which the
+# proof began, and the toolchain's name.
 is_proved() { # CRATE
     local stamp=target/stamp/$1 below
-    [ -e "$stamp" ] && [ ! crates.txt -nt "$stamp" ] || return 1
+    [ -e "$stamp" ] && [ ! crates.txt -nt "$stamp" ] && [ "$(<"$stamp")" = "$toolchain" ] || return 1
     [ -z "$(find "crates/$1"/{src,specs,proofs} -newer "$stamp" -print -quit 2>/dev/null)" ] || return 1
     for below in $(crates_of "$1"); do
         if [ "target/stamp/$below" -nt "$stamp" ]; then return 1; fi
@@ -50,16 +51,18 @@ is_proved() { # CRATE
 
 # prove NAME ..: rt check of the named crates and those below them, lowest first, with a line for each that is not proved yet.
 prove() {
-    local log=target/library/check.log crates crate n=0
+    local log=target/library/check.log begun=target/library/begun crates crate n=0 toolchain
     need rt
+    toolchain=$(rt version)
     mkdir -p target/library target/stamp
     mapfile -t crates < <(crates_of "$@")
     for crate in "${crates[@]}"; do
         n=$((n + 1))
         if is_proved "$crate"; then continue; fi
         echo "proving $crate ($n of ${#crates[@]}) .." >&2
+        echo "$toolchain" >"$begun"
         (cd "crates/$crate" && rt check) >"$log" 2>&1 || tell_failure "$log"
-        touch "target/stamp/$crate"
+        mv "$begun" "target/stamp/$crate"
     done
 }
 

@@ -102,6 +102,8 @@ def joined(word, names):
 
 def main():
     antt, rt, edits = files()
+    if any("none_passes_lem" in read(path) for path in antt):
+        raise SystemExit("respell: it has run here")
     for path in antt + rt + edits:
         text = read(path)
         new = text

@@ -4,7 +4,7 @@
  * mode what strand 0 could not; then both find the page. The last line of a run begins as the stream program's does: end, commands answered,
  * bytes taken, stop.
  *
- *     (cd crates/t1mmu && rt lib) && gcc -Iinclude -o target/printed_run examples/c/printed_run.c crates/t1mmu/out/libt1mmu.a
+ *     (cd crates/t1mmu && rt lib) && mkdir -p target && gcc -Iinclude -o target/printed_run examples/c/printed_run.c crates/t1mmu/out/libt1mmu.a
  */
 #include <inttypes.h>
 #include <stdio.h>

@@ -170,7 +170,7 @@ module _ (cand : Slot → Bool) (new : Slot) (s : List Slot) where
   pub slot-had : has_slot cand new s ≡ not (is_refused (placed cand new s))
   unfolding placed
   slot-had = had-choice ∙ by-test (any_of (overlaps new) s)
-      (λ e. rw (e, or-true (is_chosen (choice cand s))) (sym (refused _ (choice cand kept) ∙ chosen-any cand kept ∙ rw (removed-any-empty (overlaps new) s e))))
+      (λ e. rw (e, or-true (is_chosen (choice cand s))) (sym (refused kept (choice cand kept) ∙ chosen-any cand kept ∙ rw (removed-any-empty (overlaps new) s e))))
       (λ e. rw (e, or-false (is_chosen (choice cand s)), removed-none (overlaps new) s e) (sym (refused s (choice cand s))))
     where
       kept : List Slot

@@ -10,7 +10,7 @@ use Rattle.pages.proofs.in_range.Goals as goal
 
 pub returns-then-address-lt140737488355328 : goal.returns-then-address-lt140737488355328
 unfolding in_range
-returns-then-address-lt140737488355328 c = rw (lt-ltb _ (2 ^ 47) c.if-address-lt140737488355328.true)
+returns-then-address-lt140737488355328 c = rw (lt-ltb c.args.address (2 ^ 47) (omega arith))
 
 -- an address has 64 bits
 pub returns-else-address-lt140737488355328 : goal.returns-else-address-lt140737488355328

@@ -12,7 +12,7 @@ returns-then-strand-ge4 c hv = no (all hv _ _) (le-ltb _ 4 c.if-strand-ge4.true)
 
 pub returns-then-kind-ge5 : goal.returns-then-kind-ge5
 unfolding asked
-returns-then-kind-ge5 c hv = no (yes (all hv _ _) (lt-ltb _ 4 c.if-strand-ge4.false)) (le-ltb _ 5 c.if-kind-ge5.true)
+returns-then-kind-ge5 c hv = no (yes (all hv _ _) (lt-ltb _ 4 c.if-strand-ge4.false)) (le-ltb _ 5 (omega arith))
 
 -- here and below, the side is that of the kind
 pub returns-then-not-selector_fits : goal.returns-then-not-selector_fits

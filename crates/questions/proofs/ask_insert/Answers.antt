@@ -54,7 +54,7 @@ pub returns-then-flags-ge4 : goal.returns-then-flags-ge4
 unfolding asked asked_insertion permitted
 returns-then-flags-ge4 c hv =
     let a = c.args in
-    no (left-2 hv _ a.strand a.side a.flags a.word c.ask_side.ensures c.in_default.is) (le-ltb _ 4 c.if-flags-ge4.true)
+    no (left-2 hv _ a.strand a.side a.flags a.word c.ask_side.ensures c.in_default.is) (le-ltb _ 4 (omega arith))
 
 -- here and below, the words are lent, and strand and side are there
 pub mode_allows-requires : goal.mode_allows-requires
