@@ -15,34 +15,43 @@ use Rattle.machine.specs.State.{State, state_in, side_of}
 use Rattle.machine.specs.Questions.{asked, asked_insertion, insertion, ask}
 use Rattle.machine.specs.declared.Command.TheVariants as command
 use Rattle.machine.specs.declared.Verdict.{Verdict}
+use Rattle.machine.specs.declared.VirtualAddress.{VirtualAddress}
 use Rattle.machine.specs.declared.Verdict.TheVariants.{Passed}
 use Rattle.questions.specs.Verdicts.{asked_side}
 use Rattle.questions.proofs.Asks.{After, all, yes, no, none, passed, refused, there, held, failed}
 use Rattle.questions.proofs.ask_insert.Goals as goal
 
-module _ (hv : Bool) (u : State) (strand side flags word : ℕ) where
+-- what is left of the definition's questions once so many are answered yes
+module _ (hv : Bool) (u : State) (strand side flags word : ℕ) {v : Verdict} (asks : v ≡ ask (asked_side strand side)) (passes : v ≡ Passed) where
   abbrev Past : ℕ → Type 0
   Past = After hv u (command.Insert strand side flags word)
 
-  left-2 : {v : Verdict} → v ≡ ask (asked_side strand side) → v ≡ Passed → Past 2
+  left-2 : Past 2
   unfolding asked asked_insertion
-  left-2 p e = passed (asked_side strand side) _ p e (all hv _ _)
+  left-2 = passed (asked_side strand side) _ asks passes (all hv _ _)
 
-  left-3 : Past 2 → flags < 4 → Past 3
+  left-3 : flags < 4 → Past 3
   unfolding asked asked_insertion
-  left-3 l h = yes l (lt-ltb _ 4 h)
+  left-3 f = yes left-2 (lt-ltb _ 4 f)
 
-  left-4 : Past 3 → leb (least_mode (eqb flags 0)) (mode u.registers strand) ≡ true → Past 4
+  left-4 : flags < 4 → leb (least_mode (eqb flags 0)) (mode u.registers strand) ≡ true → Past 4
   unfolding asked asked_insertion permitted
-  left-4 l h = yes l h
+  left-4 f m = yes (left-3 f) m
 
-  left-5 : Past 4 → in_range (tag_address (tag_access u.registers strand side)).0 ≡ true → Past 5
+  left-5 : flags < 4 → leb (least_mode (eqb flags 0)) (mode u.registers strand) ≡ true
+      → in_range (tag_address (tag_access u.registers strand side)).0 ≡ true → Past 5
   unfolding asked asked_insertion
-  left-5 l h = yes l h
+  left-5 f m a = yes (left-4 f m) a
 
-  left-6 : Past 5 → word_insertable word ≡ true → Past 6
+  left-6 : flags < 4 → leb (least_mode (eqb flags 0)) (mode u.registers strand) ≡ true
+      → in_range (tag_address (tag_access u.registers strand side)).0 ≡ true → word_insertable word ≡ true → Past 6
   unfolding asked asked_insertion
-  left-6 l h = yes l h
+  left-6 f m a w = yes (left-5 f m a) w
+
+-- the code asks of the address what the definition asks
+address : (u : State) (strand side tag : ℕ) (x : VirtualAddress) (r : Bool) → tag ≡ tag_access u.registers strand side → x ≡ tag_address tag
+    → r ≡ in_range x.0 → r ≡ in_range (tag_address (tag_access u.registers strand side)).0
+address u strand side tag x r e f g = rw (f, e) at g
 
 pub returns-in-Refused : goal.returns-in-Refused
 unfolding asked asked_insertion
@@ -67,7 +76,7 @@ unfolding asked asked_insertion permitted
 returns-then-not-mode_allows c hv =
     let a = c.args in
     let u = state_in a.state.now in
-    let l3 = left-3 hv u a.strand a.side a.flags a.word (left-2 hv u a.strand a.side a.flags a.word c.ask_side.ensures c.in_default.is) (omega arith) in
+    let l3 = left-3 hv u a.strand a.side a.flags a.word c.ask_side.ensures c.in_default.is (omega arith) in
     no l3 (failed c.mode_allows.ensures c.if-not-mode_allows.true)
 
 pub tag_of-requires : goal.tag_of-requires
@@ -76,28 +85,21 @@ tag_of-requires c =
     let at = there a.strand a.side [] c.ask_side.ensures c.in_default.is in
     (c.requires, at.0, at.1)
 
--- the code asks of the address what the definition asks ..
 pub returns-then-not-in_range : goal.returns-then-not-in_range
 unfolding asked asked_insertion permitted
 returns-then-not-in_range c hv =
     let a = c.args in
     let u = state_in a.state.now in
-    let l3 = left-3 hv u a.strand a.side a.flags a.word (left-2 hv u a.strand a.side a.flags a.word c.ask_side.ensures c.in_default.is) (omega arith) in
-    let l4 = left-4 hv u a.strand a.side a.flags a.word l3 (held c.mode_allows.ensures c.if-not-mode_allows.false) in
-    let address : c.in_range.result ≡ in_range (tag_address (tag_access u.registers a.strand a.side)).0 =
-    rw (c.tag_address.ensures, c.tag_of.ensures) at c.in_range.ensures in
-    no l4 (failed address c.if-not-in_range.true)
+    let l4 = left-4 hv u a.strand a.side a.flags a.word c.ask_side.ensures c.in_default.is (omega arith) (held c.mode_allows.ensures c.if-not-mode_allows.false) in
+    no l4 (failed (address u a.strand a.side _ _ _ c.tag_of.ensures c.tag_address.ensures c.in_range.ensures) c.if-not-in_range.true)
 
 pub returns-then-not-word_insertable : goal.returns-then-not-word_insertable
 unfolding asked asked_insertion permitted
 returns-then-not-word_insertable c hv =
     let a = c.args in
     let u = state_in a.state.now in
-    let l3 = left-3 hv u a.strand a.side a.flags a.word (left-2 hv u a.strand a.side a.flags a.word c.ask_side.ensures c.in_default.is) (omega arith) in
-    let l4 = left-4 hv u a.strand a.side a.flags a.word l3 (held c.mode_allows.ensures c.if-not-mode_allows.false) in
-    let address : c.in_range.result ≡ in_range (tag_address (tag_access u.registers a.strand a.side)).0 =
-    rw (c.tag_address.ensures, c.tag_of.ensures) at c.in_range.ensures in
-    let l5 = left-5 hv u a.strand a.side a.flags a.word l4 (held address c.if-not-in_range.false) in
+    let l5 = left-5 hv u a.strand a.side a.flags a.word c.ask_side.ensures c.in_default.is (omega arith) (held c.mode_allows.ensures c.if-not-mode_allows.false)
+    (held (address u a.strand a.side _ _ _ c.tag_of.ensures c.tag_address.ensures c.in_range.ensures) c.if-not-in_range.false) in
     no l5 (failed c.word_insertable.ensures.insertable c.if-not-word_insertable.true)
 
 pub entry_for-requires : goal.entry_for-requires
@@ -111,18 +113,15 @@ slot_to_be_had-requires c =
     let a = c.args in
     (c.requires, (there a.strand a.side [] c.ask_side.ensures c.in_default.is).1)
 
--- .. and of the slots
+-- the code asks of the slots what the definition asks
 pub returns-then-not-slot_to_be_had : goal.returns-then-not-slot_to_be_had
 unfolding asked asked_insertion permitted
 returns-then-not-slot_to_be_had c hv =
     let a = c.args in
     let u = state_in a.state.now in
-    let l3 = left-3 hv u a.strand a.side a.flags a.word (left-2 hv u a.strand a.side a.flags a.word c.ask_side.ensures c.in_default.is) (omega arith) in
-    let l4 = left-4 hv u a.strand a.side a.flags a.word l3 (held c.mode_allows.ensures c.if-not-mode_allows.false) in
-    let address : c.in_range.result ≡ in_range (tag_address (tag_access u.registers a.strand a.side)).0 =
-    rw (c.tag_address.ensures, c.tag_of.ensures) at c.in_range.ensures in
-    let l5 = left-5 hv u a.strand a.side a.flags a.word l4 (held address c.if-not-in_range.false) in
-    let l6 = left-6 hv u a.strand a.side a.flags a.word l5 (held c.word_insertable.ensures.insertable c.if-not-word_insertable.false) in
+    let l6 =
+    left-6 hv u a.strand a.side a.flags a.word c.ask_side.ensures c.in_default.is (omega arith) (held c.mode_allows.ensures c.if-not-mode_allows.false)
+    (held (address u a.strand a.side _ _ _ c.tag_of.ensures c.tag_address.ensures c.in_range.ensures) c.if-not-in_range.false) (held c.word_insertable.ensures.insertable c.if-not-word_insertable.false) in
     let slot : c.slot_to_be_had.result ≡ has_slot candidate (insertion u a.strand a.side a.flags a.word) (side_of u a.side) =
     rw c.entry_for.ensures at c.slot_to_be_had.ensures in
     no l6 (failed slot c.if-not-slot_to_be_had.true)
@@ -132,12 +131,9 @@ unfolding asked asked_insertion permitted
 returns c hv =
     let a = c.args in
     let u = state_in a.state.now in
-    let l3 = left-3 hv u a.strand a.side a.flags a.word (left-2 hv u a.strand a.side a.flags a.word c.ask_side.ensures c.in_default.is) (omega arith) in
-    let l4 = left-4 hv u a.strand a.side a.flags a.word l3 (held c.mode_allows.ensures c.if-not-mode_allows.false) in
-    let address : c.in_range.result ≡ in_range (tag_address (tag_access u.registers a.strand a.side)).0 =
-    rw (c.tag_address.ensures, c.tag_of.ensures) at c.in_range.ensures in
-    let l5 = left-5 hv u a.strand a.side a.flags a.word l4 (held address c.if-not-in_range.false) in
-    let l6 = left-6 hv u a.strand a.side a.flags a.word l5 (held c.word_insertable.ensures.insertable c.if-not-word_insertable.false) in
+    let l6 =
+    left-6 hv u a.strand a.side a.flags a.word c.ask_side.ensures c.in_default.is (omega arith) (held c.mode_allows.ensures c.if-not-mode_allows.false)
+    (held (address u a.strand a.side _ _ _ c.tag_of.ensures c.tag_address.ensures c.in_range.ensures) c.if-not-in_range.false) (held c.word_insertable.ensures.insertable c.if-not-word_insertable.false) in
     let slot : c.slot_to_be_had.result ≡ has_slot candidate (insertion u a.strand a.side a.flags a.word) (side_of u a.side) =
     rw c.entry_for.ensures at c.slot_to_be_had.ensures in
     none (yes l6 (held slot c.if-not-slot_to_be_had.false))
