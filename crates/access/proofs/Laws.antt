@@ -1,5 +1,6 @@
 -- The state that a callee left, read back, and what a trap writes.
 -- Assumes nothing.
+use Rattle.std.proofs.Common.{Some, None, Option}
 use Prim.Native.Nat.{ℕ}
 use mathlib.Core.Path.{◌≡◌, ◌∙◌}
 use mathlib.Core.List.{List}
@@ -8,8 +9,6 @@ use Rattle.machine.specs.Registers.{register_words, with_register}
 use Rattle.machine.specs.State.{counts, State, state_in, encode, with_registers}
 use Rattle.machine.specs.Access.{trap_registers}
 use Rattle.machine.specs.declared.Access.{Access}
-use Rattle.machine.specs.declared.Tag.{Tag}
-use Rattle.machine.specs.declared.Tag.TheVariants.{Kept, Written}
 use Rattle.machine.specs.declared.Trap.{Trap}
 use Rattle.machine.proofs.State.{Sized, state-encode}
 use Rattle.state.proofs.Parts.{sized-with_registers}
@@ -28,7 +27,7 @@ module _ (u : State) (z : Sized counts u) (file : List ℕ) (l : length file ≡
       → next ≡ encode (with_registers u (with_register file strand number value))
   written-more strand number value f = f ∙ rw registers-back
 
-pub trap-length : (file : List ℕ) (a : Access) (t : Trap) (tag : Tag) → length (trap_registers file a t tag) ≡ length file
+pub trap-length : (file : List ℕ) (a : Access) (t : Trap) (tag : Option ℕ) → length (trap_registers file a t tag) ≡ length file
 unfolding trap_registers
-trap-length file a t Kept = simp length-set
-trap-length file a t (Written context) = simp length-set
+trap-length file a t None = simp length-set
+trap-length file a t (Some context) = simp length-set

@@ -1,6 +1,7 @@
 -- A lookup that is noted before its outcome is known, and told if it was a miss, comes to one that is noted behind it. Assumes nothing.
+use Rattle.std.proofs.Common.{Some, Option}
 use Prim.Native.Nat.{ℕ, ◌%◌, ◌<◌}
-use mathlib.Core.Path.{◌≡◌, ap, ◌∙◌}
+use mathlib.Core.Path.{◌≡◌, ◌∙◌}
 use mathlib.Core.Bool.{true, false, cond}
 use mathlib.Core.List.{List}
 use native.Mathlib.Omega.{arith}
@@ -8,8 +9,6 @@ use native.Mathlib.Nat.{add-zero}
 use lib.Dec.{eqb}
 use lib.ListN.{length, get_or, length-set}
 use lib.Seq.{get_or-set_same, set-set}
-use Rattle.laws.specs.declared.Found.{Found}
-use Rattle.laws.specs.declared.Found.TheVariants.{At}
 use Rattle.machine.specs.Slots.{no_slot, key_address, search, PageMatch, within, Looked, hit, miss, matched_at, looked_at, lookup}
 use Rattle.machine.specs.Record.{Records, record_of, turned, pushed, put, noted}
 use Rattle.machine.specs.State.{counts, State, state_in, side_of, with_records, encode, sound}
@@ -20,11 +19,10 @@ use Rattle.machine.specs.declared.Key.{Key}
 use Rattle.machine.specs.declared.Access.{Access}
 use Rattle.machine.specs.declared.Answer.{Answer}
 use Rattle.machine.proofs.Matches.{match-within, found-holds}
-use Rattle.machine.proofs.State.{Sized, sound-sized, encode-length, state-encode}
+use Rattle.machine.proofs.State.{Sized, sound-sized, state-encode}
 use Rattle.machine.proofs.Lookups.{looked-records, looked-with, noted-sound}
-use Rattle.state.specs.Calls.{Lent, SoundIn, on_records, miss_noted, Did}
+use Rattle.state.specs.Calls.{SoundIn, on_records, miss_noted, Did}
 use Rattle.state.proofs.Parts.{sized-with_registers}
-use Rattle.access.specs.Fits.{AccessFits}
 use Rattle.access.proofs.Laws.{trap-length}
 
 -- a hit put into a record, and told to be a miss
@@ -36,7 +34,7 @@ missed-put : (y : Records) (r : ℕ) → r < length y.newest → miss_noted r (p
 unfolding miss_noted put pushed
 missed-put y r b = rw (get_or-set_same y.newest r _ 0 b, set-set, add-zero)
 
-module _ (words : List ℕ) (h : SoundIn words) (a : Access) (f : AccessFits a) {left : List ℕ}
+module _ (words : List ℕ) (h : SoundIn words) (a : Access) (f : (a.strand < 4) × (a.side < 2)) {left : List ℕ}
     (e : left ≡ on_records (noted (record_of a.strand a.side) 0) words) where
   abbrev u : State
   u = state_in words
@@ -52,34 +50,31 @@ module _ (words : List ℕ) (h : SoundIn words) (a : Access) (f : AccessFits a) 
   x = put r 0 y
 
   left-sound : sound counts (with_records u x) ≡ true
-  left-sound = noted-sound counts u h a.strand a.side f.strands f.sides false
+  left-sound = noted-sound counts u h a.strand a.side f.0 f.1 false
 
   z : Sized counts (with_records u x)
   z = sound-sized counts (with_records u x) left-sound
 
   room : r < length y.newest
   unfolding put
-  room = omega (arith, length-set y.newest r (pushed (get_or y.newest r 0) 0), z.newest, f.strands, f.sides)
+  room = omega (arith, length-set y.newest r (pushed (get_or y.newest r 0) 0), z.newest, f.0, f.1)
 
   -- the state noted
   pub noted_back : state_in left ≡ with_records u x
   noted_back = rw e (state-encode counts (with_records u x) z)
 
-  pub noted-lent : Lent left
-  noted-lent = ap length e ∙ encode-length counts (with_records u x) z
-
   pub noted_in : SoundIn left
   noted_in = rw noted_back left-sound
 
   -- what is looked up and found there is what the state itself has
-  pub looked-same : (key : Key) → key ≡ lookup_key (state_in left).registers a → (o : Found) → search key (side_of (state_in left) a.side) ≡ o
+  pub looked-same : (key : Key) → key ≡ lookup_key (state_in left).registers a → (o : Option ℕ) → search key (side_of (state_in left) a.side) ≡ o
       → lookup (lookup_key u.registers a) (side_of u a.side) ≡ looked_at key (side_of (state_in left) a.side) o
   unfolding lookup
   looked-same key k o i = rw (← i, k, noted_back)
 
   -- a hit stays one
-  pub noted-hit : {last : List ℕ} {given : Answer} (key : Key) (i : ℕ) → search key (side_of (state_in left) a.side) ≡ At i →
-      let found : Looked = looked_at key (side_of (state_in left) a.side) (At i) in
+  pub noted-hit : {last : List ℕ} {given : Answer} (key : Key) (i : ℕ) → search key (side_of (state_in left) a.side) ≡ Some i →
+      let found : Looked = looked_at key (side_of (state_in left) a.side) (Some i) in
       Did last given (settle_looked (state_in left) a found) → Did last given (outcome_noted a (missed found) (settle_looked u a found))
   noted-hit {last} {given} key i o = go _ (match-within (get_or slots i no_slot) (key_address key) (found-holds key slots i o))
     where
@@ -105,9 +100,6 @@ module _ (words : List ℕ) (h : SoundIn words) (a : Access) (f : AccessFits a) 
 
     missed-back : state_in last ≡ v
     missed-back = rw missed-words (state-encode counts v zv)
-
-    pub missed-lent : Lent last
-    missed-lent = ap length missed-words ∙ encode-length counts v zv
 
     -- the record's newest word, whose lowest bit is the lookup's
     pub missed-even : get_or (state_in last).records.newest r 0 % 2 ≡ 0

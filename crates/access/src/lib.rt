@@ -2,24 +2,22 @@
 #![tactic(auto)]
 
 ghost use Rattle.std.specs.Prelude.{◌≡◌, true, not, cond, ◌&&◌, ◌||◌, ◌+◌, ◌%◌, ◌^◌, ◌<◌, ◌≤◌, eqb, get_or};
-ghost use Rattle.laws.specs.declared.Found.TheVariants.{At};
 ghost use Rattle.machine.specs.Words.{bits};
 ghost use Rattle.machine.specs.Slots.{no_slot, KeyFits, key_address, holds, miss, looked_at};
 ghost use Rattle.machine.specs.Registers.{with_register, translates};
 ghost use Rattle.machine.specs.State.{state_in, encode, side_of, with_registers};
-ghost use Rattle.state.specs.Calls.{Lent, SoundIn, Did};
+ghost use Rattle.state.specs.Calls.{SoundIn, Did};
 ghost use Rattle.machine.specs.Access.{address_used, access_of, exception, trap_tag, bypass_to, prepare_bypass, lookup_key, prepare};
 ghost use Rattle.machine.specs.Access.{miss_trap, fault_type, judge, translated_by, trap_fault, trap_registers, trap_to};
 ghost use Rattle.machine.specs.Access.{settle_looked, settle, access_to};
 ghost use Rattle.machine.specs.declared.Prepared.TheVariants.{Lookup};
-ghost use Rattle.machine.specs.declared.Tag.TheVariants.{Kept};
 ghost use Rattle.access.specs.Faults.{faultless};
-ghost use Rattle.access.specs.Fits.{AccessFits, RegistersFit, FaultFits, TagFits, PreparedFits, JudgedFits};
+ghost use Rattle.access.specs.Fits.{RegistersFit, FaultFits, TagFits, PreparedFits, JudgedFits};
 
-use laws::Found;
 use machine::{
-    Access, Answer, Judged, Key, Prepared, Reach, Tag, Translation, Trap, Trapped, VirtualAddress,
+    Access, Answer, Key, Prepared, Reach, Strand, Translation, Trap, Trapped, VirtualAddress,
 };
+use state::State;
 
 fn bit_of(word: u64, place: u64) -> u64
     requires { place < 64 }
@@ -28,18 +26,19 @@ fn bit_of(word: u64, place: u64) -> u64
     (word >> place) % 2
 }
 
+// An access is lent up to its last use, and there handed on: lent everywhere a bypass takes 6 % more.
+
 // Whether translation is on for the side of an access.
-fn translation_on(state: &[u64], a: Access) -> bool
-    requires { Lent state.now × AccessFits a }
-    ensures { result ≡ translates (state_in state.now).registers a.strand a.side }
+fn translation_on(state: &State, a: &Access) -> bool
+    ensures on { result ≡ translates (state_in state.now).registers a.now.strand a.now.side }
+    ensures small { a.now.strand < 4 }
 {
     let enables = state::read_register(state, a.strand, machine::TRANSLATION);
-    bit_of(enables, a.side as u64) == 1
+    bit_of(enables, a.side.number() as u64) == 1
 }
 
 // The address used: with the mask on, modes 0 and 1 keep only its low 32 bits.
-fn used_address(state: &[u64], strand: u8, address: VirtualAddress) -> VirtualAddress
-    requires { Lent state.now × (strand < 4) }
+fn used_address(state: &State, strand: Strand, address: VirtualAddress) -> VirtualAddress
     ensures { result ≡ address_used (state_in state.now).registers strand address }
 {
     if state::read_register(state, strand, machine::ADDRESS_MASK) != 1 {
@@ -53,14 +52,13 @@ fn used_address(state: &[u64], strand: u8, address: VirtualAddress) -> VirtualAd
 
 // An access by its operands, with what they pick.
 pub fn access_of(
-    state: &[u64],
-    strand: u8,
+    state: &State,
+    strand: Strand,
     kind: u8,
     selector: u8,
     size: u8,
     address: VirtualAddress,
 ) -> Access
-    requires { Lent state.now × (strand < 4) }
     ensures { result ≡ access_of (state_in state.now).registers strand kind selector size address }
 {
     let used = used_address(state, strand, address);
@@ -85,15 +83,15 @@ fn exception_of(kind: u8, fault: u64) -> Trap
 }
 
 // The context that a trap of steps 4 to 7 leaves in tag access: the one selected; 0 while translation is off.
-fn tag_written(state: &[u64], a: Access) -> Tag
-    requires { Lent state.now × AccessFits a × RegistersFit state.now }
-    ensures tag { result ≡ trap_tag (state_in state.now).registers a }
+fn tag_written(state: &State, a: &Access) -> Option<u64>
+    requires { RegistersFit state.now }
+    ensures tag { result ≡ trap_tag (state_in state.now).registers a.now }
     ensures fits { TagFits result }
 {
     if translation_on(state, a) {
-        return Tag::Written(operands::selected_context(state, a.strand, a.selector));
+        return Some(operands::selected_context(state, a.strand, a.selector));
     }
-    Tag::Written(0)
+    Some(0)
 }
 
 // Bit 39 of an address says whether it lies in memory (cp, which counts 1) or in I/O space (e, which counts 2).
@@ -116,15 +114,15 @@ fn prepare_bypass(kind: u8, used: VirtualAddress) -> Prepared
         return Prepared::Bypass(bypass_translation(used));
     }
     match kind {
-        4 => Prepared::Stopped(Trap::DataAccessException(0x02), Tag::Written(0)),
-        3 => Prepared::Stopped(Trap::DataAccessException(0x04), Tag::Written(0)),
+        4 => Prepared::Stopped(Trap::DataAccessException(0x02), Some(0)),
+        3 => Prepared::Stopped(Trap::DataAccessException(0x04), Some(0)),
         _ => Prepared::Bypass(bypass_translation(used)),
     }
 }
 
-fn key_of_access(state: &[u64], a: Access) -> Key
-    requires { Lent state.now × AccessFits a × RegistersFit state.now }
-    ensures key { result ≡ lookup_key (state_in state.now).registers a }
+fn key_of_access(state: &State, a: &Access) -> Key
+    requires { RegistersFit state.now }
+    ensures key { result ≡ lookup_key (state_in state.now).registers a.now }
     ensures fits { KeyFits result }
 {
     let on = translation_on(state, a);
@@ -150,17 +148,17 @@ fn is_user_nucleus(mode: u64, kind: u8, selector: u8) -> bool
 }
 
 // Steps 1 to 4.
-fn prepare_access(state: &[u64], a: Access) -> Prepared
-    requires { Lent state.now × AccessFits a × (a.size < 4) × RegistersFit state.now }
-    ensures prepared { result ≡ prepare (state_in state.now).registers a }
+fn prepare_access(state: &State, a: &Access) -> Prepared
+    requires { (a.now.size < 4) × RegistersFit state.now }
+    ensures prepared { result ≡ prepare (state_in state.now).registers a.now }
     ensures fits { PreparedFits result }
 {
     if !aligned(a.used, a.size) {
-        return Prepared::Stopped(Trap::AddressNotAligned, Tag::Kept);
+        return Prepared::Stopped(Trap::AddressNotAligned, None);
     }
     let mode = state::read_register(state, a.strand, machine::MODE);
     if is_user_nucleus(mode, a.kind, a.selector) {
-        return Prepared::Stopped(Trap::PrivilegedAction, Tag::Kept);
+        return Prepared::Stopped(Trap::PrivilegedAction, None);
     }
     if mode == machine::HYPERPRIVILEGED {
         return prepare_bypass(a.kind, a.used);
@@ -171,9 +169,8 @@ fn prepare_access(state: &[u64], a: Access) -> Prepared
     Prepared::Lookup
 }
 
-fn miss_of(state: &[u64], a: Access) -> Trap
-    requires { Lent state.now × AccessFits a }
-    ensures trap { result ≡ miss_trap (state_in state.now).registers a }
+fn miss_of(state: &State, a: &Access) -> Trap
+    ensures trap { result ≡ miss_trap (state_in state.now).registers a.now }
     ensures fits { FaultFits result }
 {
     if translation_on(state, a) {
@@ -235,9 +232,8 @@ fn is_write_denied(kind: u8, word: u64) -> bool
 }
 
 // Steps 6 and 7.
-fn judge_word(state: &[u64], a: Access, word: u64) -> Judged
-    requires { Lent state.now × AccessFits a }
-    ensures judged { result ≡ judge (state_in state.now).registers a word }
+fn judge_word(state: &State, a: &Access, word: u64) -> Result<(), Trap>
+    ensures judged { result ≡ judge (state_in state.now).registers a.now word }
     ensures fits { JudgedFits result }
 {
     let fault = fault_of(
@@ -246,12 +242,12 @@ fn judge_word(state: &[u64], a: Access, word: u64) -> Judged
         word,
     );
     if fault != 0 {
-        return Judged::Faulted(exception_of(a.kind, fault));
+        return Err(exception_of(a.kind, fault));
     }
     if is_write_denied(a.kind, word) {
-        return Judged::Faulted(Trap::DataProtection);
+        return Err(Trap::DataProtection);
     }
-    Judged::Permitted
+    Ok(())
 }
 
 // Step 8: the physical address and the size code, both by the one match.
@@ -267,19 +263,19 @@ fn translated_by(word: u64, reach: Reach) -> Translation
 }
 
 // Writes a register that each side has: the base is its number on side 0.
-fn write_side(state: &mut [u64], a: Access, base: u8, value: u64)
-    requires { Lent state.old × AccessFits a × (base < 31) }
+fn write_side(state: &mut State, a: &Access, base: u8, value: u64)
+    requires { base < 31 }
     ensures { state.new ≡ encode (with_registers (state_in state.old)
-        (with_register (state_in state.old).registers a.strand (base + a.side) value)) }
+        (with_register (state_in state.old).registers a.now.strand (base + a.now.side) value)) }
 {
-    state::write_register(state, a.strand, base + a.side, value);
+    state::write_register(state, a.strand, base + a.side.number(), value);
 }
 
 // The two registers that every trap sets: fault address (22) and fault (24).
-fn write_fault(state: &mut [u64], a: Access, trap: Trap)
-    requires { Lent state.old × AccessFits a × FaultFits trap }
+fn write_fault(state: &mut State, a: &Access, trap: Trap)
+    requires { FaultFits trap }
     ensures { state.new ≡ encode (with_registers (state_in state.old)
-        (trap_registers (state_in state.old).registers a trap Kept)) }
+        (trap_registers (state_in state.old).registers a.now trap None)) }
 {
     write_side(state, a, machine::FAULT_ADDRESS, a.used.0);
     write_side(
@@ -291,13 +287,13 @@ fn write_fault(state: &mut [u64], a: Access, trap: Trap)
 }
 
 // What a trap writes.
-fn write_trap(state: &mut [u64], a: Access, trap: Trap, tag: Tag)
-    requires { Lent state.old × AccessFits a × FaultFits trap × TagFits tag }
+fn write_trap(state: &mut State, a: &Access, trap: Trap, tag: Option<u64>)
+    requires { FaultFits trap × TagFits tag }
     ensures { state.new ≡ encode (with_registers (state_in state.old)
-        (trap_registers (state_in state.old).registers a trap tag)) }
+        (trap_registers (state_in state.old).registers a.now trap tag)) }
 {
     write_fault(state, a, trap);
-    if let Tag::Written(context) = tag {
+    if let Some(context) = tag {
         write_side(
             state,
             a,
@@ -307,11 +303,11 @@ fn write_trap(state: &mut [u64], a: Access, trap: Trap, tag: Tag)
     }
 }
 
-fn take_trap(state: &mut [u64], a: Access, trap: Trap, tag: Tag) -> Answer
-    requires { Lent state.old × AccessFits a × FaultFits trap × TagFits tag }
+fn take_trap(state: &mut State, a: Access, trap: Trap, tag: Option<u64>) -> Answer
+    requires { FaultFits trap × TagFits tag }
     ensures { Did state.new result (trap_to (state_in state.old) a trap tag) }
 {
-    write_trap(state, a, trap, tag);
+    write_trap(state, &a, trap, tag);
     let used = a.used;
     Answer::Trap(Trapped {
         trap: trap,
@@ -321,66 +317,68 @@ fn take_trap(state: &mut [u64], a: Access, trap: Trap, tag: Tag) -> Answer
 }
 
 // A trap that writes tag access.
-fn take_tagged(state: &mut [u64], a: Access, trap: Trap) -> Answer
-    requires { Lent state.old × AccessFits a × FaultFits trap × RegistersFit state.old }
+fn take_tagged(state: &mut State, a: Access, trap: Trap) -> Answer
+    requires { FaultFits trap × RegistersFit state.old }
     ensures { Did state.new result
         (trap_to (state_in state.old) a trap (trap_tag (state_in state.old).registers a)) }
 {
-    let tag = tag_written(state, a);
+    let tag = tag_written(state, &a);
     take_trap(state, a, trap, tag)
 }
 
 // A miss traps and sets no used bit.
-fn settle_miss(state: &mut [u64], a: Access) -> Answer
-    requires { Lent state.old × AccessFits a × RegistersFit state.old }
+fn settle_miss(state: &mut State, a: Access) -> Answer
+    requires { RegistersFit state.old }
     ensures { Did state.new result (settle_looked (state_in state.old) a miss) }
 {
-    let trap = miss_of(state, a);
+    let trap = miss_of(state, &a);
     take_tagged(state, a, trap)
 }
 
 // A hit in slot i has its used bit set, and is judged. Its page holds the key's address.
-fn settle_hit(state: &mut [u64], a: Access, key: Key, i: usize) -> Answer
-    requires { Lent state.old × AccessFits a × (i < 64) × RegistersFit state.old
+fn settle_hit(state: &mut State, a: Access, key: Key, i: usize) -> Answer
+    requires { (i < 64) × RegistersFit state.old
         × (holds (get_or (side_of (state_in state.old) a.side) i no_slot) (key_address key) ≡ true) }
     ensures { Did state.new result (settle_looked (state_in state.old) a
-        (looked_at key (side_of (state_in state.old) a.side) (At i))) }
+        (looked_at key (side_of (state_in state.old) a.side) (Some i))) }
 {
     let x = state::slot_of(state, a.side, i);
     let reach = tlb::reach_of(x, tlb::key_address(key));
     let word = x.word;
-    let judged = judge_word(state, a, word);
+    let judged = judge_word(state, &a, word);
     state::mark_used(state, a.side, i);
     match judged {
-        Judged::Faulted(trap) => take_tagged(state, a, trap),
-        Judged::Permitted => Answer::Physical(translated_by(word, reach)),
+        Err(trap) => take_tagged(state, a, trap),
+        Ok(()) => Answer::Physical(translated_by(word, reach)),
     }
 }
 
 // Step 5 and what comes of it. The lookup is noted before the key is there, when few values are to be kept: fewer instructions a hit.
-fn look_up(state: &mut [u64], hints: &mut [u8; 256], a: Access) -> Answer
-    requires { Lent state.old × AccessFits a × SoundIn state.old }
+fn look_up(state: &mut State, hints: &mut [u8; 256], a: Access) -> Answer
+    requires { SoundIn state.old }
     ensures { Did state.new result (settle (state_in state.old) a Lookup) }
 {
-    state::note_lookup(state, a.strand, a.side);
-    let key = key_of_access(state, a);
-    let found = state::search_hinted(state, hints, a.side, key);
+    let strand = a.strand;
+    let side = a.side;
+    state::note_lookup(state, strand, side);
+    let key = key_of_access(state, &a);
+    let found = state::search_hinted(state, hints, side, key);
     match found {
-        Found::At(i) => settle_hit(state, a, key, i),
-        Found::Nothing => {
+        Some(i) => settle_hit(state, a, key, i),
+        None => {
             let answer = settle_miss(state, a);
-            state::note_miss(state, a.strand, a.side);
+            state::note_miss(state, strand, side);
             answer
         }
     }
 }
 
 // One access that passed its questions.
-pub fn access_to(state: &mut [u64], hints: &mut [u8; 256], a: Access) -> Answer
-    requires { Lent state.old × AccessFits a × (a.size < 4) × SoundIn state.old }
+pub fn access_to(state: &mut State, hints: &mut [u8; 256], a: Access) -> Answer
+    requires { (a.size < 4) × SoundIn state.old }
     ensures { Did state.new result (access_to (state_in state.old) a) }
 {
-    let prepared = prepare_access(state, a);
+    let prepared = prepare_access(state, &a);
     match prepared {
         Prepared::Stopped(trap, tag) => take_trap(state, a, trap, tag),
         Prepared::Bypass(translation) => Answer::Physical(translation),

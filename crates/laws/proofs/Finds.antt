@@ -1,9 +1,9 @@
 -- Laws of `find` and of counts over elements that are known: what is found, what stands once, tests that agree on every element, and counts up to the first.
 -- Over any type and any test. Assumes nothing.
+use Rattle.std.proofs.Common.{Some, None, Option}
 use mathlib.Core.Path.{◌≡◌, refl, ap, ◌∙◌}
 use mathlib.Core.Bool.{Bool, true, false, not, ◌&&◌}
 use mathlib.Core.List.{List, [], ◌∷◌}
-use mathlib.Core.Option.{Option, none, some}
 use Prim.Native.Nat.{ℕ, zero, suc, ◌+◌, ◌≤◌, ◌<◌}
 use native.Mathlib.Omega.{arith}
 use lib.Dec.{eqb}
@@ -11,7 +11,6 @@ use lib.ListN.{length, get_or, take}
 use borrow.Author.Tests.{eq-eqb, ne_eqb}
 use Rattle.laws.specs.Tests.{tick, count, any_of, all_of, first_from, first, count_up_to}
 use Rattle.laws.specs.Passing.{passing, how_many, none_passes, without, find}
-use Rattle.laws.specs.declared.Found.TheVariants.{At}
 use Rattle.laws.proofs.Bools.{by-test, clash, and_both, and_left, and_right}
 use Rattle.laws.proofs.Counts.{count_at, count-le, count-split, count-any, none-count}
 
@@ -39,8 +38,8 @@ module _ {A : Type 0} where
 
   -- ---- what `find` says
   abbrev pub FindSays : (A → Bool) → List A → Option A → Type 0
-  FindSays p l none = count p l ≡ 0
-  FindSays p l (some x) = (p x ≡ true) × Stands x l
+  FindSays p l None = count p l ≡ 0
+  FindSays p l (Some x) = (p x ≡ true) × Stands x l
 
   pub find-says : (p : A → Bool) (l : List A) → FindSays p l (find p l)
   unfolding passing count
@@ -50,19 +49,19 @@ module _ {A : Type 0} where
       (λ e. rw e (more e (find p l) (find-says p l)))
     where
       more : p y ≡ false → (o : Option A) → FindSays p l o → FindSays p (y ∷ l) o
-      more e none h = rw e (omega arith)
-      more e (some x) h = (h.0, stands-more x y l h.1)
+      more e None h = rw e (omega arith)
+      more e (Some x) h = (h.0, stands-more x y l h.1)
 
-  pub find-zero : (p : A → Bool) (l : List A) → count p l ≡ 0 → find p l ≡ none
+  pub find-zero : (p : A → Bool) (l : List A) → count p l ≡ 0 → find p l ≡ None
   find-zero p l h = go (find p l) (find-says p l)
     where
-      go : (o : Option A) → FindSays p l o → o ≡ none
-      go none f = refl
-      go (some x) f = absurd (omega (arith, stands-count p l x f.0 f.1))
+      go : (o : Option A) → FindSays p l o → o ≡ None
+      go None f = refl
+      go (Some x) f = absurd (omega (arith, stands-count p l x f.0 f.1))
 
   -- ---- a test passed at most once
   -- find does not see the order
-  pub find-only : (p : A → Bool) (l : List A) (x : A) → p x ≡ true → Stands x l → count p l ≤ 1 → find p l ≡ some x
+  pub find-only : (p : A → Bool) (l : List A) (x : A) → p x ≡ true → Stands x l → count p l ≤ 1 → find p l ≡ Some x
   unfolding passing count
   find-only p [] x e (i, h, g) one = absurd (omega arith)
   find-only p (y ∷ l) x e (zero, h, g) one = rw (g, e)
@@ -73,16 +72,16 @@ module _ {A : Type 0} where
       (λ t. rw t (find-only p l x e s (omega arith)))
 
   -- nor does a search for the first
-  pub first-only : (p : A → Bool) (l : List A) (i : ℕ) (d : A) → count p l ≤ 1 → i < length l → p (get_or l i d) ≡ true → first p l ≡ At i
+  pub first-only : (p : A → Bool) (l : List A) (i : ℕ) (d : A) → count p l ≤ 1 → i < length l → p (get_or l i d) ≡ true → first p l ≡ Some i
   unfolding first_from count
-  first-only p l i d one h e = from l i 0 one h e ∙ ap At (omega arith)
+  first-only p l i d one h e = from l i 0 one h e ∙ ap Some (omega arith)
     where
-      from : (l : List A) (i k : ℕ) → count p l ≤ 1 → i < length l → p (get_or l i d) ≡ true → first_from p k l ≡ At (k + i)
+      from : (l : List A) (i k : ℕ) → count p l ≤ 1 → i < length l → p (get_or l i d) ≡ true → first_from p k l ≡ Some (k + i)
       from [] i k one h e = absurd (omega arith)
-      from (x ∷ l) zero k one h e = rw e (ap At (omega arith))
+      from (x ∷ l) zero k one h e = rw e (ap Some (omega arith))
       from (x ∷ l) (suc i) k one h e = by-test (p x)
           (λ t. absurd (omega (arith, ap tick t, count_at p l i d (omega arith) e)))
-          (λ t. rw t (from l i (suc k) (omega (arith, ap tick t)) (omega arith) e ∙ ap At (omega arith)))
+          (λ t. rw t (from l i (suc k) (omega (arith, ap tick t)) (omega arith) e ∙ ap Some (omega arith)))
 
   -- without it that one is gone
   pub removed-once : (p q : A → Bool) (l : List A) (x : A) → q x ≡ true → Stands x l → count q l ≤ 1
@@ -122,19 +121,19 @@ module _ {A : Type 0} where
 
   -- ---- how many up to the first that passes: of the elements up to it and with it, or of all
   module _ (q p : A → Bool) where
-    upto_from : (l : List A) (k j : ℕ) → first_from p k l ≡ At j → (i : ℕ) × (j ≡ k + i) × (count_up_to q p l ≡ count q (take (suc i) l))
+    upto_from : (l : List A) (k j : ℕ) → first_from p k l ≡ Some j → (i : ℕ) × (j ≡ k + i) × (count_up_to q p l ≡ count q (take (suc i) l))
     unfolding first_from count_up_to count
     upto_from [] k j h = absurd (let z : ◌≡◌ {A = ℕ} 0 1 = cc in omega arith)
     upto_from (x ∷ l) k j h = by-test (p x)
         (λ t.
-        let at : At k ≡ At j = rw t at h in
+        let at : Some k ≡ Some j = rw t at h in
         let here : k ≡ j = cc in
         (0, omega arith, rw t))
         (λ t.
         let (i, n, c) = upto_from l (suc k) j (rw t at h) in
         (suc i, omega arith, rw (t, c)))
 
-    pub upto-found : (l : List A) (i : ℕ) → first p l ≡ At i → count_up_to q p l ≡ count q (take (i + 1) l)
+    pub upto-found : (l : List A) (i : ℕ) → first p l ≡ Some i → count_up_to q p l ≡ count q (take (i + 1) l)
     upto-found l i h =
         let (j, n, c) = upto_from l 0 i h in
         let e : suc j ≡ i + 1 = omega arith in

@@ -1,5 +1,6 @@
 -- What a loop over a list knows: a search, a test or a count of the elements from i on, and a rewriting of those before i.
 -- Over any type and any test. Assumes nothing.
+use Rattle.std.proofs.Common.{Some, None, Option}
 use mathlib.Core.Path.{◌≡◌, refl, ap, ◌∙◌}
 use mathlib.Core.Bool.{Bool, true, false, not, cond, ◌&&◌, ◌||◌, and-false, or_comm}
 use mathlib.Core.List.{List, [], ◌∷◌, map}
@@ -9,24 +10,22 @@ use native.Mathlib.Numerals.{add-one}
 use lib.ListN.{length, get_or, set, drop, drop_of_length-le}
 use lib.Seq.{drop-cons}
 use Rattle.laws.specs.Tests.{tick, count, any_of, all_of, pairwise, first_from, first, count_up_to}
-use Rattle.laws.specs.declared.Found.{Found}
-use Rattle.laws.specs.declared.Found.TheVariants.{At, Nothing}
 use Rattle.laws.proofs.Bools.{by-test}
 
 module _ {A : Type 0} (d : A) (s : List A) (i : ℕ) where
   -- ---- the first that passes
   module _ (p : A → Bool) where
-    first_step : i < length s → first_from p i (drop i s) ≡ cond (p (get_or s i d)) (At i) (first_from p (i + 1) (drop (i + 1) s))
+    first_step : i < length s → first_from p i (drop i s) ≡ cond (p (get_or s i d)) (Some i) (first_from p (i + 1) (drop (i + 1) s))
     unfolding first_from
     first_step h = rw (add-one, drop-cons s i d)
 
-    pub first-hit : i < length s → p (get_or s i d) ≡ true → first_from p i (drop i s) ≡ At i
+    pub first-hit : i < length s → p (get_or s i d) ≡ true → first_from p i (drop i s) ≡ Some i
     first-hit h t = first_step h ∙ rw t
 
     pub first-pass : i < length s → p (get_or s i d) ≡ false → first_from p i (drop i s) ≡ first_from p (i + 1) (drop (i + 1) s)
     first-pass h t = first_step h ∙ rw t
 
-    pub first-end : length s ≤ i → first_from p i (drop i s) ≡ Nothing
+    pub first-end : length s ≤ i → first_from p i (drop i s) ≡ None
     unfolding first_from
     first-end h = rw (drop_of_length-le s)
 
@@ -110,14 +109,14 @@ pair-drop f (x ∷ r) (suc i) h = rw (pair-drop f r i h) (and-false (not (any_of
 
 -- ---- what a search says: the index found is within and passes, or none passes
 module _ {A : Type 0} (d : A) (p : A → Bool) where
-  abbrev pub Says : List A → ℕ → Found → Type 0
-  Says s k (At j) = (i : ℕ) × (j ≡ k + i) × (i < length s) × (p (get_or s i d) ≡ true)
-  Says s k Nothing = any_of p s ≡ false
+  abbrev pub Says : List A → ℕ → Option ℕ → Type 0
+  Says s k (Some j) = (i : ℕ) × (j ≡ k + i) × (i < length s) × (p (get_or s i d) ≡ true)
+  Says s k None = any_of p s ≡ false
 
-  says-more : (x : A) (s : List A) (k : ℕ) (f : Found) → p x ≡ false → Says s (suc k) f → Says (x ∷ s) k f
+  says-more : (x : A) (s : List A) (k : ℕ) (f : Option ℕ) → p x ≡ false → Says s (suc k) f → Says (x ∷ s) k f
   unfolding any_of
-  says-more x s k (At j) e h = (suc h.0, omega (arith, h.1), omega (arith, h.2), h.3)
-  says-more x s k Nothing e h = rw e h
+  says-more x s k (Some j) e h = (suc h.0, omega (arith, h.1), omega (arith, h.2), h.3)
+  says-more x s k None e h = rw e h
 
   says-from : (s : List A) (k : ℕ) → Says s k (first_from p k s)
   unfolding first_from any_of
@@ -129,10 +128,10 @@ module _ {A : Type 0} (d : A) (p : A → Bool) where
   pub first_says : (s : List A) → Says s 0 (first p s)
   first_says s = says-from s 0
 
-  pub found_at : (s : List A) (j : ℕ) → first p s ≡ At j → (j < length s) × (p (get_or s j d) ≡ true)
+  pub found_at : (s : List A) (j : ℕ) → first p s ≡ Some j → (j < length s) × (p (get_or s j d) ≡ true)
   found_at s j e = go (rw e at (first_says s))
     where
-      go : Says s 0 (At j) → (j < length s) × (p (get_or s j d) ≡ true)
+      go : Says s 0 (Some j) → (j < length s) × (p (get_or s j d) ≡ true)
       go h =
           let q : h.0 ≡ j = omega (arith, h.1) in
           (omega (arith, h.2), rw q at h.3)
@@ -143,10 +142,10 @@ module _ {A : Type 0} (d : A) (p : A → Bool) where
   any_at (x ∷ s) zero h t = rw t
   any_at (x ∷ s) (suc i) h t = rw (any_at s i (omega arith) t) (or_comm (p x) true)
 
-  pub found-any : (s : List A) (j : ℕ) → first p s ≡ At j → any_of p s ≡ true
+  pub found-any : (s : List A) (j : ℕ) → first p s ≡ Some j → any_of p s ≡ true
   found-any s j e = let f = found_at s j e in any_at s j f.0 f.1
 
-  pub found_none : (s : List A) → first p s ≡ Nothing → any_of p s ≡ false
+  pub found_none : (s : List A) → first p s ≡ None → any_of p s ≡ false
   found_none s e = rw e at (first_says s)
 
 -- ---- f on the first i elements: what a loop that rewrites each element has done

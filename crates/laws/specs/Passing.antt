@@ -1,6 +1,5 @@
 -- What the second texts say of lists, all by one definition: those that pass a test. Over any type and any test. Assumes nothing.
-use Rattle.std.specs.Prelude.{Bool, not, cond, List, [], ◌∷◌, ℕ, eqb, length}
-use Rattle.std.proofs.Math.Option.{Option, none, some}
+use Rattle.std.specs.Prelude.{Bool, not, cond, List, [], ◌∷◌, ℕ, eqb, length, Some, None, Option}
 
 module _ {A : Type 0} where
   -- those that pass, in their order
@@ -21,8 +20,8 @@ module _ {A : Type 0} where
 
   -- the first that passes
   abbrev pub head_of : List A → Option A
-  head_of [] = none
-  head_of (x ∷ r) = some x
+  head_of [] = None
+  head_of (x ∷ r) = Some x
 
   abbrev pub find : (A → Bool) → List A → Option A
   find p l = head_of (passing p l)

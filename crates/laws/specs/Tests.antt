@@ -1,8 +1,6 @@
 -- Tests of the elements of a list: how many pass, whether any or all do, the first that does, and how many up to it. Over any type and any test.
 -- Assumes nothing.
-use Rattle.std.specs.Prelude.{Bool, true, false, not, cond, ◌&&◌, ◌||◌, List, [], ◌∷◌, ℕ, zero, suc, ◌+◌}
-use Rattle.laws.specs.declared.Found.{Found}
-use Rattle.laws.specs.declared.Found.TheVariants.{At, Nothing}
+use Rattle.std.specs.Prelude.{Bool, true, false, not, cond, ◌&&◌, ◌||◌, List, [], ◌∷◌, ℕ, zero, suc, ◌+◌, Some, None, Option}
 
 -- 1 where a test passes
 abbrev pub tick : Bool → ℕ
@@ -35,11 +33,11 @@ module _ {A : Type 0} where
   pairwise clash (x ∷ r) = not (any_of (clash x) r) && pairwise clash r
 
   -- the index of the first that passes, counted from k
-  unfoldable pub first_from : (A → Bool) → ℕ → List A → Found
-  first_from p k [] = Nothing
-  first_from p k (x ∷ r) = cond (p x) (At k) (first_from p (suc k) r)
+  unfoldable pub first_from : (A → Bool) → ℕ → List A → Option ℕ
+  first_from p k [] = None
+  first_from p k (x ∷ r) = cond (p x) (Some k) (first_from p (suc k) r)
 
-  abbrev pub first : (A → Bool) → List A → Found
+  abbrev pub first : (A → Bool) → List A → Option ℕ
   first p s = first_from p 0 s
 
   -- how many pass a test, up to and with the first that passes another; of all where none does

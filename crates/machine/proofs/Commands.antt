@@ -1,4 +1,5 @@
 -- Commands on a side: the unit's and the ledger's agree. Assumes nothing.
+use Rattle.std.proofs.Common.{Some, None, Ok, Err, Option, Result}
 use Prim.Native.Nat.{ℕ, zero, suc, ◌-◌, ◌/◌, ◌%◌, ◌^◌, ◌≤◌, ◌<◌}
 use mathlib.Core.Path.{◌≡◌, refl, sym, ap, ◌∙◌}
 use mathlib.Core.Bool.{Bool, true, false, not}
@@ -7,7 +8,6 @@ use native.Mathlib.Omega.{arith}
 use lib.Dec.{eqb, ltb, leb}
 use lib.ListN.{length, get_or}
 use borrow.Author.Tests.{eqb-true, eq-eqb, ltb-true, not-true}
-use mathlib.Core.Option.{Option, none, some}
 use Rattle.laws.specs.Tests.{tick, count, any_of, all_of}
 use Rattle.laws.specs.Passing.{how_many, none_passes, find}
 use Rattle.laws.proofs.Bools.{by-test, clash, and_left, and_right, and_both, or-other}
@@ -39,15 +39,12 @@ use Rattle.machine.specs.declared.Access.{Access}
 use Rattle.machine.specs.declared.Prepared.TheVariants as prepared
 use Rattle.machine.specs.declared.Removal.{Removal}
 use Rattle.machine.specs.declared.Removal.TheVariants as removal
-use Rattle.machine.specs.declared.Placed.{Placed}
-use Rattle.machine.specs.declared.Placed.TheVariants.{Done, Displaced, Refused}
 use Rattle.machine.proofs.Views.{Plain}
 use Rattle.machine.proofs.Insertion.{is_refused, slot-had, no_slot_lem}
 use Rattle.machine.proofs.Sound.{live-parts, sound-slot}
 use Rattle.machine.specs.declared.Command.{Command}
 use Rattle.machine.specs.declared.Command.TheVariants as command
 use Rattle.machine.specs.declared.Answer.TheVariants as answer
-use Rattle.machine.specs.declared.Verdict.TheVariants.{Passed}
 use Rattle.machine.proofs.Matches.{looked-by}
 use Rattle.machine.proofs.State.{strand-sound, kind_side_lem, passed-asked, key_address_lem}
 use Rattle.machine.proofs.Questions.{context_picked_lem, write_bytes, write-alike, read-bytes, pointers-bytes, rate-bytes}
@@ -62,6 +59,7 @@ use Rattle.machine.proofs.Sides.{SameTest, everything-test, page-test, context-t
 use Rattle.machine.proofs.Sides.{aligned, alike-nothing, alike-found, alike-one, alike-used, alike-count}
 use Rattle.machine.proofs.Sides.{alike-removed, alike-emptied, name_of, named_self, DisplacedSays, alike-lacks}
 use Rattle.machine.proofs.Sides.{alike-done, alike-displaced, inserts-refused, inserts-done, inserts-displaced}
+use Rattle.machine.specs.declared.NoSlot.{NoSlot}
 
 -- ---- a side of two that are alike
 pub alike-side : {n : Counts} {u : State} {l : Ledger} (side : ℕ) → side < 2 → Alike n u l → SideAlike (slot_count n side) (side_of u side) (l.entries side)
@@ -116,13 +114,13 @@ answer-kind : {b c : Bytes} → b ≡ c → get_or b 0 0 ≡ get_or c 0 0
 answer-kind e = ap (λ (b : Bytes). get_or b 0 0) e
 
 -- what the answer names is the displaced entry
-displaced_name_lem : (x : Slot) → slot_sound x ≡ true → is_live x ≡ true → is_named (name_in (answer_bytes (placed_answer (Displaced x)))) (entry_in x) ≡ true
+displaced_name_lem : (x : Slot) → slot_sound x ≡ true → is_live x ≡ true → is_named (name_in (answer_bytes (placed_answer (Ok (Some x))))) (entry_in x) ≡ true
 unfolding answer_bytes
 displaced_name_lem x k l =
     let w = live-parts x k l in
     let (q, a) = aligned x k l in
     let p : x.page < 2 ^ 64 = range-fits x.page w.range in
-    let e : name_in (answer_bytes (placed_answer (Displaced x))) ≡ name_of x =
+    let e : name_in (answer_bytes (placed_answer (Ok (Some x)))) ≡ name_of x =
     name_back (omega (arith, w.partition)) (omega (arith, tick-small (is_real x))) (omega (arith, w.context)) (word_below x.word w.word) in
     rw e (named_self x)
 
@@ -134,8 +132,8 @@ insertion-says {n} {s} {m} h new k l = go (placed candidate new s) refl
     e : Entry
     e = entry_in new
 
-    go : (r : Placed) → placed candidate new s ≡ r → InsertionSays n (map place_in s) m e (answer_bytes (placed_answer r))
-    go Done f = record {
+    go : (r : Result (Option Slot) NoSlot) → placed candidate new s ≡ r → InsertionSays n (map place_in s) m e (answer_bytes (placed_answer r))
+    go (Ok None) f = record {
       displaced = (λ z. absurd (omega arith), λ z. clash (and_both _ _ (eq-eqb _ _ z.0) (eq-eqb _ _ z.1)) (alike-done h new k l f).0);
       named = λ z. absurd (omega arith);
       refused = (
@@ -144,15 +142,15 @@ insertion-says {n} {s} {m} h new k l = go (placed candidate new s) refl
             (and_both _ _ (eq-eqb _ _ z.0) (eq-eqb _ _ z.2)) (alike-done h new k l f).0,
       );
     }
-    go (Displaced x) f =
+    go (Ok (Some x)) f =
         let w : DisplacedSays n new s m x = alike-displaced h new k l x f in
-        let some : 1 ≤ how_many unlocked m = rw (how_many_lem unlocked m) (stands-count unlocked m (entry_in x) w.free w.listed) in
+        let any : 1 ≤ how_many unlocked m = rw (how_many_lem unlocked m) (stands-count unlocked m (entry_in x) w.free w.listed) in
         record {
-          displaced = (λ z. (w.full, how_many_lem _ m ∙ w.apart, some), λ z. refl);
+          displaced = (λ z. (w.full, how_many_lem _ m ∙ w.apart, any), λ z. refl);
           named = λ z. (entry_in x, displaced-way new s x f, displaced_name_lem x w.sound w.live, w.listed, w.free);
           refused = (λ z. absurd (omega (arith, answer-kind z, line-kind 5 13 0 0 0 0)), λ z. absurd (omega (arith, z.1)));
         }
-    go Refused f =
+    go (Err _) f =
         let t : lacks_slot n e m ≡ true = alike-lacks h new k l ∙ ap not (slot-had candidate new s) ∙ rw f in
         let full : length m ≡ n = eqb-true _ _ (and_left _ _ t) in
         let locked : how_many unlocked m ≡ 0 = eqb-true _ _ (and_left _ _ (and_right (eqb (length m) n) _ t)) in
@@ -165,52 +163,52 @@ insertion-says {n} {s} {m} h new k l = go (placed candidate new s) refl
 
 -- the ledger, told what the unit's answer names, answers likewise; and but for a refusal the two stay alike
 module _ {n : Counts} {u : State} {l : Ledger} (h : Alike n u l) (side : ℕ) (b : side < 2) (new : Slot) (k : slot_sound new ≡ true) (v : is_live new ≡ true) where
-  abbrev answered : Placed → Bytes
+  abbrev answered : Result (Option Slot) NoSlot → Bytes
   answered r = answer_bytes (placed_answer r)
 
-  abbrev entered : Placed → Written
+  abbrev entered : Result (Option Slot) NoSlot → Written
   entered r = inserts (slot_count n side) l side (entry_in new) (name_in (answered r))
 
-  abbrev pub Inserted : Placed → Type 0
-  Inserted Done = Alike n (with_side u side (inserted candidate new (side_of u side))) (entered Done).ledger
-  Inserted (Displaced x) = Alike n (with_side u side (inserted candidate new (side_of u side))) (entered (Displaced x)).ledger
-  Inserted Refused = (entered Refused).ledger ≡ l
+  abbrev pub Inserted : Result (Option Slot) NoSlot → Type 0
+  Inserted (Ok None) = Alike n (with_side u side (inserted candidate new (side_of u side))) (entered (Ok None)).ledger
+  Inserted (Ok (Some x)) = Alike n (with_side u side (inserted candidate new (side_of u side))) (entered (Ok (Some x))).ledger
+  Inserted (Err _) = (entered (Err (record {}))).ledger ≡ l
 
-  pub insert-agrees : (r : Placed) → placed candidate new (side_of u side) ≡ r → ((entered r).bytes ≡ answered r) × Inserted r
+  pub insert-agrees : (r : Result (Option Slot) NoSlot) → placed candidate new (side_of u side) ≡ r → ((entered r).bytes ≡ answered r) × Inserted r
   unfolding answer_bytes
-  insert-agrees Done f =
+  insert-agrees (Ok None) f =
       let s = alike-side side b h in
-      rw (inserts-done l side s new k v (name_in (answered Done)) f) (
+      rw (inserts-done l side s new k v (name_in (answered (Ok None))) f) (
         sym (line-answer 0 0 0 (omega arith) (omega arith) (omega arith)),
         alike-with_side side b h (alike-done s new k v f).1,
       )
-  insert-agrees (Displaced x) f =
+  insert-agrees (Ok (Some x)) f =
       let s = alike-side side b h in
       let w = alike-displaced s new k v x f in
       let t = displaced_name_lem x w.sound w.live in
       let p = live-parts x w.sound w.live in
-      rw (inserts-displaced l side s new k v (name_in (answered (Displaced x))) x f t) (
+      rw (inserts-displaced l side s new k v (name_in (answered (Ok (Some x)))) x f t) (
         sym (line-answer 4 _ _ (omega arith) (omega (arith, p.partition)) (omega (arith, tick-small (is_real x)))),
         alike-with_side side b h (w.after _ t),
       )
-  insert-agrees Refused f =
+  insert-agrees (Err _) f =
       let s = alike-side side b h in
       let e : has_slot candidate new (side_of u side) ≡ false = slot-had candidate new (side_of u side) ∙ rw f in
-      rw (inserts-refused l side s new k v (name_in (answered Refused)) e) (sym (line-answer 5 0 0 (omega arith) (omega arith) (omega arith)), refl)
+      rw (inserts-refused l side s new k v (name_in (answered (Err (record {})))) e) (sym (line-answer 5 0 0 (omega arith) (omega arith) (omega arith)), refl)
 
   -- with a slot to be had the two stay alike; with none the insertion is refused, and the ledger is as it was
   pub insert-alike : has_slot candidate new (side_of u side) ≡ true
       → Alike n (with_side u side (inserted candidate new (side_of u side))) (entered (placed candidate new (side_of u side))).ledger
   insert-alike e = go (placed candidate new (side_of u side)) (sym (slot-had candidate new (side_of u side)) ∙ e) (insert-agrees _ refl).1
     where
-      go : (r : Placed) → not (is_refused r) ≡ true → Inserted r → Alike n (with_side u side (inserted candidate new (side_of u side))) (entered r).ledger
-      go Done t a = a
-      go (Displaced x) t a = a
-      go Refused t a = clash t refl
+      go : (r : Result (Option Slot) NoSlot) → not (is_refused r) ≡ true → Inserted r → Alike n (with_side u side (inserted candidate new (side_of u side))) (entered r).ledger
+      go (Ok None) t a = a
+      go (Ok (Some x)) t a = a
+      go (Err _) t a = clash t refl
 
   pub insert-refused : has_slot candidate new (side_of u side) ≡ false
-      → (placed candidate new (side_of u side) ≡ Refused) × ((entered (placed candidate new (side_of u side))).ledger ≡ l)
-  insert-refused e = let f = (no_slot_lem candidate new (side_of u side) e).0 in (f, rw f (insert-agrees Refused f).1)
+      → (placed candidate new (side_of u side) ≡ Err (record {})) × ((entered (placed candidate new (side_of u side))).ledger ≡ l)
+  insert-refused e = let f = (no_slot_lem candidate new (side_of u side) e).0 in (f, rw f (insert-agrees (Err (record {})) f).1)
 
 -- ---- what an access that looks up gets
 looks-past : (l : Ledger) (a : Asked) → looks_up l a ≡ true → any_of (λ q. q.0) (early_steps l a) ≡ false
@@ -234,8 +232,8 @@ access-says l a b one e = record {
     p = found_by l a
 
     zero-by : (o : Option Entry) → FindSays p m o → (misses l a).bytes ≡ (looked_up l a o).bytes → count p m ≡ 0
-    zero-by none f g = f
-    zero-by (some x) f g = absurd (miss-not-hit l a x g)
+    zero-by None f g = f
+    zero-by (Some x) f g = absurd (miss-not-hit l a x g)
 
 -- ---- each command that no question refused, but for the insertion
 ruleset conj = (and_left, and_right, ltb-true)
@@ -321,7 +319,7 @@ module _ {n : Counts} {u : State} {l : Ledger} (h : Alike n u l) where
       ((access-does a s c).bytes ∙ ap (λ (w : Written). w.bytes) (fit_none (early_steps l a) _ (looks-past l a e)))
 
   -- a command that passed and is no insertion
-  pub does-alike : (hv : Bool) (c : Command) → verdict hv u c ≡ Passed → (d : Name) → Plain (view c) → StepAlike n (act u c) (does (slot_count n) l c d)
+  pub does-alike : (hv : Bool) (c : Command) → verdict hv u c ≡ Ok tt → (d : Name) → Plain (view c) → StepAlike n (act u c) (does (slot_count n) l c d)
   unfolding act does asked all_of pointers
   does-alike hv (command.Write strand number value) v d t = record { bytes = write_bytes u strand number value; alike = write-alike h hv strand number value v }
   does-alike hv (command.Insert strand side flags word) v d t = absurd t
@@ -386,7 +384,7 @@ module _ {n : Counts} {u : State} {k : Reference} (h : ReferenceAlike n u k) whe
       go (looks p past) = rw (p, none_passes_lem (λ q. q.0) (early_steps l a), past) (found-places a s c)
       go (ends any z f) = rw (none_passes_lem (λ q. q.0) (early_steps l a), any) (places_same _ h.places z)
 
-  pub does-places : (hv : Bool) (c : Command) → verdict hv u c ≡ Passed → Plain (view c) → PlacesAlike (act u c).state (moved (slot_count n) k c)
+  pub does-places : (hv : Bool) (c : Command) → verdict hv u c ≡ Ok tt → Plain (view c) → PlacesAlike (act u c).state (moved (slot_count n) k c)
   unfolding act moved asked all_of
   does-places hv (command.Write strand number value) v t = places_same _ h.places (refl, refl)
   does-places hv (command.Insert strand side flags word) v t = absurd t

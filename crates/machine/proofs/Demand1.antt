@@ -1,4 +1,5 @@
 -- Demand 1 is met. Assumes nothing.
+use Rattle.std.proofs.Common.{Some, None, Ok, Err, Option, Result}
 use Prim.Native.Nat.{ℕ, ◌≤◌}
 use mathlib.Core.Path.{◌≡◌, refl, sym, ◌∙◌}
 use mathlib.Core.Bool.{Bool, true, false, not}
@@ -26,29 +27,27 @@ use Rattle.machine.specs.declared.Access.{Access}
 use Rattle.machine.specs.declared.Translation.{Translation}
 use Rattle.machine.specs.declared.Prepared.{Prepared}
 use Rattle.machine.specs.declared.Prepared.TheVariants as prepared
-use Rattle.machine.specs.declared.Judged.{Judged}
-use Rattle.machine.specs.declared.Judged.TheVariants as judged
-use Rattle.machine.specs.declared.Placed.{Placed}
-use Rattle.machine.specs.declared.Placed.TheVariants.{Done, Displaced, Refused}
 use Rattle.machine.specs.declared.Command.{Command}
 use Rattle.machine.specs.declared.Command.TheVariants as command
 use Rattle.machine.specs.declared.Answer.TheVariants as answer
-use Rattle.machine.specs.declared.Verdict.{Verdict}
-use Rattle.machine.specs.declared.Verdict.TheVariants as verdicts
 use Rattle.machine.proofs.Insertion.{is_refused, slot-had}
 use Rattle.machine.proofs.State.{Insertable, insertable, insert-insertable, sound-encode}
 use Rattle.machine.proofs.Runs.{run_past, run-unsound}
 use Rattle.machine.proofs.Demand3.{step-says, alike-sound, alike-words}
 use Rattle.machine.proofs.Good.{state_for, good-alike, state-alike, unsound-words}
 use Rattle.machine.proofs.Misses.{MissAlike, refuses, lacks, inserts, miss-alike}
+use Rattle.machine.specs.declared.Refusal.{Refusal}
+use Rattle.machine.specs.declared.Trap.{Trap}
+use Rattle.machine.specs.declared.Slot.{Slot}
+use Rattle.machine.specs.declared.NoSlot.{NoSlot}
 
 ruleset conj = (and_left, and_right)
 
 -- ---- a command that was not refused does not say so
-judged-kind : (u : State) (a : Access) (p : Translation) (j : Judged) → 5 ≤ get_or (answer_bytes (settle_judged u a p j).answer) 0 0 → ⊥
+judged-kind : (u : State) (a : Access) (p : Translation) (j : Result (Unit {0}) Trap) → 5 ≤ get_or (answer_bytes (settle_judged u a p j).answer) 0 0 → ⊥
 unfolding answer_bytes
-judged-kind u a p (judged.Faulted t) h = omega arith
-judged-kind u a p judged.Permitted h = omega arith
+judged-kind u a p (Err t) h = omega arith
+judged-kind u a p (Ok _) h = omega arith
 
 looked-kind : (u : State) (a : Access) (f : Looked) → 5 ≤ get_or (answer_bytes (settle_looked u a f).answer) 0 0 → ⊥
 unfolding answer_bytes
@@ -63,11 +62,11 @@ settled-kind u a (prepared.Stopped t tag) h = omega arith
 settled-kind u a (prepared.Bypass p) h = omega arith
 settled-kind u a prepared.Lookup h = looked-kind u a (lookup (lookup_key u.registers a) (side_of u a.side)) h
 
-placed-kind : (r : Placed) → not (is_refused r) ≡ true → 5 ≤ get_or (answer_bytes (placed_answer r)) 0 0 → ⊥
+placed-kind : (r : Result (Option Slot) NoSlot) → not (is_refused r) ≡ true → 5 ≤ get_or (answer_bytes (placed_answer r)) 0 0 → ⊥
 unfolding answer_bytes
-placed-kind Done t h = omega arith
-placed-kind (Displaced x) t h = omega arith
-placed-kind Refused t h = clash t refl
+placed-kind (Ok None) t h = omega arith
+placed-kind (Ok (Some x)) t h = omega arith
+placed-kind (Err _) t h = clash t refl
 
 insert-kind : (u : State) (strand side flags word : ℕ) → Insertable u strand side flags word
     → 5 ≤ get_or (answer_bytes (act u (command.Insert strand side flags word)).answer) 0 0 → ⊥
@@ -76,7 +75,7 @@ insert-kind u strand side flags word i h =
     let new = insertion u strand side flags word in
     placed-kind (placed candidate new (side_of u side)) (sym (slot-had candidate new (side_of u side)) ∙ i.slot) h
 
-passed-kind : (hv : Bool) (u : State) (c : Command) → verdict hv u c ≡ verdicts.Passed → 5 ≤ get_or (answer_bytes (act u c).answer) 0 0 → ⊥
+passed-kind : (hv : Bool) (u : State) (c : Command) → verdict hv u c ≡ Ok tt → 5 ≤ get_or (answer_bytes (act u c).answer) 0 0 → ⊥
 unfolding answer_bytes act asked all_of
 passed-kind hv u (command.Write strand number value) v h = omega arith
 passed-kind hv u (command.Insert strand side flags word) v h =
@@ -94,9 +93,9 @@ refusal-leaves : (hv : Bool) (u : State) (c : Command) → get_or (answer_bytes 
 unfolding step
 refusal-leaves hv u c = go (verdict hv u c) refl
   where
-    go : (v : Verdict) → verdict hv u c ≡ v → get_or (answer_bytes (step_by v u c).answer) 0 0 ≡ 5 → (step_by v u c).state ≡ u
-    go verdicts.Passed e h = absurd (passed-kind hv u c e (omega arith))
-    go (verdicts.Refused r) e h = refl
+    go : (v : Result (Unit {0}) Refusal) → verdict hv u c ≡ v → get_or (answer_bytes (step_by v u c).answer) 0 0 ≡ 5 → (step_by v u c).state ≡ u
+    go (Ok _) e h = absurd (passed-kind hv u c e (omega arith))
+    go (Err r) e h = refl
 
 -- ---- a served miss
 inserted-leaves : (u : State) (strand side word : ℕ) → 5 ≤ get_or (answer_bytes (insert_step u strand side 0 word).answer) 0 0
@@ -107,9 +106,9 @@ inserted-leaves u strand side word = go (ask (asked_insertion u strand side 0 wo
     c : Command
     c = command.Insert strand side 0 word
 
-    go : (v : Verdict) → ask (asked_insertion u strand side 0 word) ≡ v → 5 ≤ get_or (answer_bytes (step_by v u c).answer) 0 0 → (step_by v u c).state ≡ u
-    go verdicts.Passed e h = absurd (insert-kind u strand side 0 word (insertable u strand side 0 word e) h)
-    go (verdicts.Refused r) e h = refl
+    go : (v : Result (Unit {0}) Refusal) → ask (asked_insertion u strand side 0 word) ≡ v → 5 ≤ get_or (answer_bytes (step_by v u c).answer) 0 0 → (step_by v u c).state ≡ u
+    go (Ok _) e h = absurd (insert-kind u strand side 0 word (insertable u strand side 0 word e) h)
+    go (Err r) e h = refl
 
 miss-leaves : (u : State) (strand side : ℕ) {m : Miss} {t : Stepped} → MissAlike u strand side m t → 5 ≤ get_or (answer_bytes t.answer) 0 0 → t.state ≡ u
 miss-leaves u strand side (refuses r) h = refl

@@ -1,4 +1,5 @@
 -- The fields of an entry word and the bound of physical addresses are as document 01 has them. Assumes nothing.
+use Rattle.std.proofs.Common.{Some, None, Ok, Err, Option, Result}
 use Prim.Native.Nat.{ℕ, ◌+◌, ◌-◌, ◌/◌, ◌%◌, ◌^◌, ◌<◌}
 use mathlib.Core.Path.{◌≡◌, refl, ap, ◌∙◌}
 use mathlib.Core.Bool.{Bool, true, false, not, ◌&&◌}
@@ -26,24 +27,19 @@ use Rattle.machine.specs.declared.Slot.{Slot}
 use Rattle.machine.specs.declared.Key.{Key}
 use Rattle.machine.specs.declared.Access.{Access}
 use Rattle.machine.specs.declared.Trap.{Trap}
-use Rattle.machine.specs.declared.Tag.{Tag}
 use Rattle.machine.specs.declared.Translation.{Translation}
 use Rattle.machine.specs.declared.Prepared.{Prepared}
 use Rattle.machine.specs.declared.Prepared.TheVariants as prepared
-use Rattle.machine.specs.declared.Judged.{Judged}
-use Rattle.machine.specs.declared.Judged.TheVariants as judged
-use Rattle.machine.specs.declared.Placed.{Placed}
-use Rattle.machine.specs.declared.Placed.TheVariants as placement
 use Rattle.machine.specs.declared.Command.{Command}
 use Rattle.machine.specs.declared.Command.TheVariants as command
-use Rattle.machine.specs.declared.Verdict.{Verdict}
-use Rattle.machine.specs.declared.Verdict.TheVariants.{Passed, Refused}
 use Rattle.machine.specs.declared.Answer.{Answer}
 use Rattle.machine.specs.declared.Answer.TheVariants as answer
 use Rattle.machine.proofs.Sound.{live-parts, answers-live, sound-slot}
 use Rattle.machine.proofs.Matches.{looked-by}
 use Rattle.machine.proofs.State.{sound-side}
 use Rattle.machine.proofs.Words.{pack-unpack, physical-below}
+use Rattle.machine.specs.declared.Refusal.{Refusal}
+use Rattle.machine.specs.declared.NoSlot.{NoSlot}
 
 -- ---- bits of bits
 low_bit : (x m : ℕ) → x % 2 ^ (m + 1) % 2 ≡ x % 2
@@ -77,7 +73,7 @@ bypass-below file a t h =
     (λ g. bypassed (rw (e, f, g) at h))
     (λ g. by-test (not (in_range a.used.0)) (λ i. other (rw (e, f, g, i) at h)) (λ i. looked (rw (e, f, g, i) at h)))))
   where
-    other : {s : Trap} {tag : Tag} → prepared.Stopped s tag ≡ prepared.Bypass t → t.address.0 < 2 ^ 40
+    other : {s : Trap} {tag : Option ℕ} → prepared.Stopped s tag ≡ prepared.Bypass t → t.address.0 < 2 ^ 40
     other z = absurd (let w : ◌≡◌ {A = ℕ} 0 1 = cc in omega arith)
 
     given : {p : Translation} → prepared.Bypass p ≡ prepared.Bypass t → p.address.0 < 2 ^ 40 → t.address.0 < 2 ^ 40
@@ -106,10 +102,10 @@ no_address : {C : Type 0} {x : Answer} {t : Translation} → is_physical x ≡ f
 no_address f e = clash (ap is_physical e) f
 
 module _ (n : Counts) (u : State) (h : sound n u ≡ true) (a : Access) (t : Translation) where
-  judged-below : (v : State) (p : Translation) (j : Judged) → p.address.0 < 2 ^ 40
+  judged-below : (v : State) (p : Translation) (j : Result (Unit {0}) Trap) → p.address.0 < 2 ^ 40
       → (settle_judged v a p j).answer ≡ answer.Physical t → t.address.0 < 2 ^ 40
-  judged-below v p (judged.Faulted s) b e = no_address refl e
-  judged-below v p judged.Permitted b e = let is : p ≡ t = cc in rw (← is) b
+  judged-below v p (Err s) b e = no_address refl e
+  judged-below v p (Ok _) b e = let is : p ≡ t = cc in rw (← is) b
 
   looked-below : (key : Key) → (settle_looked u a (lookup key (side_of u a.side))).answer ≡ answer.Physical t → t.address.0 < 2 ^ 40
   looked-below key =
@@ -128,10 +124,10 @@ module _ (n : Counts) (u : State) (h : sound n u ≡ true) (a : Access) (t : Tra
   settled-below (prepared.Bypass p) g e = bypass-below u.registers a t (g ∙ (let is : p ≡ t = cc in ap prepared.Bypass is))
   settled-below prepared.Lookup g e = looked-below (lookup_key u.registers a) e
 
-placed_below : (r : Placed) (t : Translation) → placed_answer r ≡ answer.Physical t → t.address.0 < 2 ^ 40
-placed_below placement.Done t e = no_address refl e
-placed_below (placement.Displaced x) t e = no_address refl e
-placed_below placement.Refused t e = no_address refl e
+placed_below : (r : Result (Option Slot) NoSlot) (t : Translation) → placed_answer r ≡ answer.Physical t → t.address.0 < 2 ^ 40
+placed_below (Ok None) t e = no_address refl e
+placed_below (Ok (Some x)) t e = no_address refl e
+placed_below (Err _) t e = no_address refl e
 
 -- nothing but an access answers with one
 act-below : (n : Counts) (u : State) (c : Command) (t : Translation) → sound n u ≡ true → (act u c).answer ≡ answer.Physical t → t.address.0 < 2 ^ 40
@@ -152,9 +148,9 @@ step-below : (hv : Bool) (n : Counts) (u : State) (c : Command) (t : Translation
 unfolding step
 step-below hv n u c t h = go (verdict hv u c)
   where
-    go : (v : Verdict) → (step_by v u c).answer ≡ answer.Physical t → t.address.0 < 2 ^ 40
-    go Passed e = act-below n u c t h e
-    go (Refused r) e = no_address refl e
+    go : (v : Result (Unit {0}) Refusal) → (step_by v u c).answer ≡ answer.Physical t → t.address.0 < 2 ^ 40
+    go (Ok _) e = act-below n u c t h e
+    go (Err r) e = no_address refl e
 
 fields_fit : (t : Tte) → Fields (λ k n field. field < 2 ^ n) t → fields t ≡ true
 unfolding fields

@@ -1,4 +1,5 @@
 -- Demand 3 is met, for any number of slots on either side. Assumes nothing.
+use Rattle.std.proofs.Common.{Ok, Err, Option, Result}
 use Prim.Native.Nat.{ℕ, zero, suc, ◌+◌, ◌*◌, ◌-◌, ◌/◌, ◌%◌, ◌<◌}
 use mathlib.Core.Path.{◌≡◌, refl, sym, ap, ap₂, subst, ◌∙◌}
 use mathlib.Core.Bool.{Bool, true, false, not}
@@ -34,13 +35,10 @@ use Rattle.machine.specs.Places.{Place, empty, Reference, moved, places_after, p
 use Rattle.machine.specs.Format.{Reading, ReadAs}
 use Rattle.machine.specs.Views.{view}
 use Rattle.machine.specs.declared.Slot.{Slot}
-use Rattle.machine.specs.declared.Placed.{Placed}
 use Rattle.machine.specs.declared.Refusal.TheVariants as refusal
 use Rattle.machine.specs.declared.Answer.TheVariants as answer
 use Rattle.machine.specs.declared.Command.{Command}
 use Rattle.machine.specs.declared.Command.TheVariants as command
-use Rattle.machine.specs.declared.Verdict.{Verdict}
-use Rattle.machine.specs.declared.Verdict.TheVariants.{Passed, Refused}
 use Rattle.machine.proofs.Views.{Plain, by-view}
 use Rattle.machine.proofs.Sound.{entry-live}
 use Rattle.machine.proofs.State.{sound-file, sound-encode, words_sound_lem, passed-asked, insertion-sound}
@@ -59,6 +57,8 @@ use Rattle.machine.proofs.Bytes.{line-answer}
 use Rattle.machine.proofs.Misses.{MissAlike, refuses, lacks, inserts, miss-alike}
 use Rattle.machine.proofs.Looks.{StepAlike, used-alike}
 use Rattle.machine.proofs.Commands.{does-alike, does-places, access-told, insertion-says, insert-agrees, insert-alike, insert-refused, alike-side}
+use Rattle.machine.specs.declared.Refusal.{Refusal}
+use Rattle.machine.specs.declared.NoSlot.{NoSlot}
 
 ruleset conj = (and_left, and_right, ltb-true)
 
@@ -74,10 +74,10 @@ step-refused : (hv : Bool) (n : Counts) (u : State) (k : Reference) (c : Command
 unfolding step enters places_after
 step-refused hv n u k c h e = go (verdict hv u c) (refused-alike h.ledger hv c e)
   where
-    go : (v : Verdict) → verdict_number v ≡ first_no (questions hv k.ledger c) → StepSays hv n u k c
-    go Passed f = absurd (e (sym f))
-    go (Refused r) f =
-        let v : verdict hv u c ≡ Refused r = same_number (verdict hv u c) (Refused r) (refused-alike h.ledger hv c e ∙ sym f) in
+    go : (v : Result (Unit {0}) Refusal) → verdict_number v ≡ first_no (questions hv k.ledger c) → StepSays hv n u k c
+    go (Ok _) f = absurd (e (sym f))
+    go (Err r) f =
+        let v : verdict hv u c ≡ Err r = same_number (verdict hv u c) (Err r) (refused-alike h.ledger hv c e ∙ sym f) in
         let t : eqb (first_no (questions hv k.ledger c)) 0 ≡ false = ne_eqb _ 0 e in
         record {
           bytes = rw (v, t) (ap (λ (i : ℕ). line 5 i 0 0 0 0) (sym f) ∙ sym (refused-bytes r));
@@ -87,10 +87,10 @@ step-refused hv n u k c h e = go (verdict hv u c) (refused-alike h.ledger hv c e
 
 -- ---- a command that no question refused: the unit acts, and the ledger does
 passed : {n : Counts} {u : State} {l : Ledger} → Alike n u l → (hv : Bool) (c : Command) → slot_left u c ≡ true → first_no (questions hv l c) ≡ 0
-    → verdict hv u c ≡ Passed
+    → verdict hv u c ≡ Ok tt
 passed {u} h hv c f e = number_passed (verdict hv u c) (passed-alike h hv c e ∙ rw f)
 
-step-passed : {n : Counts} {u : State} {k : Reference} (hv : Bool) (c : Command) → verdict hv u c ≡ Passed → first_no (questions hv k.ledger c) ≡ 0
+step-passed : {n : Counts} {u : State} {k : Reference} (hv : Bool) (c : Command) → verdict hv u c ≡ Ok tt → first_no (questions hv k.ledger c) ≡ 0
     → StepAlike n (act u c) (does (slot_count n) k.ledger c (name_in (unit_bytes hv u c))) → PlacesAlike (act u c).state (moved (slot_count n) k c)
     → SaysOf n k (view c) (unit_bytes hv u c) → StepSays hv n u k c
 unfolding step enters places_after
@@ -101,7 +101,7 @@ step-passed hv c v e s p y = record {
 }
 
 -- what is said of one that is no insertion
-says-passed : {n : Counts} {u : State} {k : Reference} → ReferenceAlike n u k → (hv : Bool) (c : Command) → Plain (view c) → verdict hv u c ≡ Passed
+says-passed : {n : Counts} {u : State} {k : Reference} → ReferenceAlike n u k → (hv : Bool) (c : Command) → Plain (view c) → verdict hv u c ≡ Ok tt
     → SaysOf n k (view c) (answer_bytes (act u c).answer)
 unfolding act asked all_of
 says-passed {u} h hv =
@@ -149,7 +149,7 @@ module _ {n : Counts} {u : State} {k : Reference} (a : ReferenceAlike n u k) (st
   abbrev number : ℕ
   number = first_no (insertion_questions l strand side word)
 
-  abbrev asks : Verdict
+  abbrev asks : Result (Unit {0}) Refusal
   asks = ask (asked_insertion u strand side flags word)
 
   abbrev new : Slot
@@ -167,11 +167,11 @@ module _ {n : Counts} {u : State} {k : Reference} (a : ReferenceAlike n u k) (st
       refused : verdict_number asks ≡ number
       refused = insertion-number h strand side flags word s d ∙ rw (ne_eqb number 0 e)
 
-      go : (v : Verdict) → verdict_number v ≡ number → InsertSays n k strand side flags word
+      go : (v : Result (Unit {0}) Refusal) → verdict_number v ≡ number → InsertSays n k strand side flags word
           (answer_bytes (step_by asks u (command.Insert strand side flags word)).answer) (step_by asks u (command.Insert strand side flags word)).state
-      go Passed g = absurd (e (sym g))
-      go (Refused r) g =
-          let v : asks ≡ Refused r = same_number asks (Refused r) (refused ∙ sym g) in
+      go (Ok _) g = absurd (e (sym g))
+      go (Err r) g =
+          let v : asks ≡ Err r = same_number asks (Err r) (refused ∙ sym g) in
           let t : eqb number 0 ≡ false = ne_eqb number 0 e in
           record {
             bytes = rw (v, t) (ap (λ (i : ℕ). line 5 i 0 0 0 0) (sym g) ∙ sym (refused-bytes r));
@@ -180,7 +180,7 @@ module _ {n : Counts} {u : State} {k : Reference} (a : ReferenceAlike n u k) (st
           }
 
   module _ (e : number ≡ 0) where
-    abbrev told : Placed
+    abbrev told : Result (Option Slot) NoSlot
     told = placed candidate new (side_of u side)
 
     words : word_good word ≡ true
@@ -207,10 +207,10 @@ module _ {n : Counts} {u : State} {k : Reference} (a : ReferenceAlike n u k) (st
     same_entry_lem = insertion-entry h strand side flags word s d f good
 
     -- the unit's answer, by whether a slot is to be had
-    had : slotted ≡ true → asks ≡ Passed
+    had : slotted ≡ true → asks ≡ Ok tt
     had t = number_passed asks (insertion-number h strand side flags word s d ∙ rw (e, t))
 
-    lacked : slotted ≡ false → asks ≡ Refused refusal.NoSlot
+    lacked : slotted ≡ false → asks ≡ Err refusal.NoSlot
     lacked t = number-refused asks refusal.NoSlot (insertion-number h strand side flags word s d ∙ rw (e, t))
 
     unit-answer : answer_bytes (insert_step u strand side flags word).answer ≡ answer_bytes (placed_answer told)

@@ -1,17 +1,15 @@
 -- How far a translation reaches, and how long it lasts. Assumes nothing.
+use Rattle.std.proofs.Common.{Some, None, Option}
 use Prim.Native.Nat.{ℕ, ◌+◌, ◌*◌, ◌-◌, ◌/◌, ◌%◌, ◌^◌, ◌<◌}
 use mathlib.Core.Path.{◌≡◌, refl, ap, sym, ◌∙◌}
 use mathlib.Core.Bool.{Bool, true, false, not, ◌&&◌, ◌||◌}
 use mathlib.Core.List.{List, [], ◌∷◌, ◌++◌}
-use mathlib.Core.Option.{Option, none, some}
 use native.Mathlib.Omega.{arith}
 use lib.Dec.{eqb, leb}
 use lib.ListN.{length, get_or, take, drop}
 use borrow.Author.Tests.{eqb-true, eqb-false, eq-eqb, ne_eqb, le-leb, leb-true, not-true}
 use Rattle.laws.specs.Tests.{any_of, first}
 use Rattle.laws.specs.Passing.{none_passes, without, find}
-use Rattle.laws.specs.declared.Found.{Found}
-use Rattle.laws.specs.declared.Found.TheVariants.{At, Nothing}
 use Rattle.laws.proofs.Bools.{by-test, clash, and_left, and_right, and_both, or_left, or_right}
 use Rattle.laws.proofs.Finds.{Stands, none_passes_lem, find-says, find-only}
 use Rattle.machine.specs.Slots.{no_slot, is_live, size_code, holds, answers_to}
@@ -100,8 +98,8 @@ module _ (strand side : ℕ) (l : Ledger) where
 
   looked-lasts : (a : Asked) (o : Option Entry) → Lasts (looked_up l a o)
   unfolding misses hits
-  looked-lasts a none = puts-last a true (misses l a) (tagged-lasts a _ _ 0)
-  looked-lasts a (some e) = puts-last a false (hits l a e) (fit-ind Lasts _ _ (tagged-lasts a _ _ _, (tagged-lasts a _ 0x6C 0, tt)) same)
+  looked-lasts a None = puts-last a true (misses l a) (tagged-lasts a _ _ 0)
+  looked-lasts a (Some e) = puts-last a false (hits l a e) (fit-ind Lasts _ _ (tagged-lasts a _ _ _, (tagged-lasts a _ 0x6C 0, tt)) same)
 
   access-lasts : (a : Asked) → Lasts (accesses l a)
   unfolding accesses early_steps
@@ -120,8 +118,8 @@ module _ (strand side : ℕ) (l : Ledger) where
       (λ f. rw (t, f) (entries-last k (without (overlap e) m ++ (e ∷ [])) h)))
     where
       named : (o : Option Entry) → Lasts (displaces l k e d o)
-      named none = same
-      named (some x) = entries-last k _ h
+      named None = same
+      named (Some x) = entries-last k _ h
 
   pub does-lasts : (n : ℕ → ℕ) (c : Command) (d : Name) → disturbs strand side c ≡ false → Lasts (does n l c d)
   unfolding does disturbs pointers
@@ -223,8 +221,8 @@ module _ (l : Ledger) (q : Asked) (attributes code address : ℕ) where
       )
 
 abbrev is_some : Option Entry → Bool
-is_some none = false
-is_some (some e) = true
+is_some None = false
+is_some (Some e) = true
 
 other_offset : (frame y z : ℕ) → frame + z ≡ frame + y - y + z
 other_offset frame y z = omega arith
@@ -244,17 +242,17 @@ module _ {n : Counts} {u : State} {l : Ledger} (h : Alike n u l) (q : Asked) (s 
   owned = is_of (l.registers q.strand 0) (not (translation_on l q)) (context_picked l q.strand q.selector)
 
   -- the entry found stands in a sound live slot
-  found_slot_lem : (e : Entry) → find (found_by l q) m ≡ some e → (x : Slot) × (slot_sound x ≡ true) × (is_live x ≡ true) × (e ≡ entry_in x)
+  found_slot_lem : (e : Entry) → find (found_by l q) m ≡ Some e → (x : Slot) × (slot_sound x ≡ true) × (is_live x ≡ true) × (e ≡ entry_in x)
   found_slot_lem e f = go (first (answers_to key) slots) refl
     where
       slots : List Slot
       slots = side_of u (kind_side q.kind)
 
-      go : (o : Found) → first (answers_to key) slots ≡ o → (x : Slot) × (slot_sound x ≡ true) × (is_live x ≡ true) × (e ≡ entry_in x)
-      go Nothing g = clash (ap is_some f) (ap is_some (alike-nothing (looked h q) (key-same h q s c) g))
-      go (At i) g =
+      go : (o : Option ℕ) → first (answers_to key) slots ≡ o → (x : Slot) × (slot_sound x ≡ true) × (is_live x ≡ true) × (e ≡ entry_in x)
+      go None g = clash (ap is_some f) (ap is_some (alike-nothing (looked h q) (key-same h q s c) g))
+      go (Some i) g =
           let (live, t) = alike-found (looked h q) (key-same h q s c) i (looked-one h q s c) g in
-          let both : some e ≡ some (entry_in (get_or slots i no_slot)) = sym f ∙ t in
+          let both : Some e ≡ Some (entry_in (get_or slots i no_slot)) = sym f ∙ t in
           (get_or slots i no_slot, sound-slot slots i (looked h q).sound, live, cc)
 
   module _ (attributes code address : ℕ) (small : address < 2 ^ 64) (paged : code ≡ 15 → ⊥) where
@@ -262,7 +260,7 @@ module _ {n : Counts} {u : State} {l : Ledger} (h : Alike n u l) (q : Asked) (s 
     abbrev near : ℕ → ℕ → Asked
     near size used = record { strand = q.strand; kind = q.kind; selector = q.selector; size = size; used = used }
 
-    module _ (e : Entry) (f : find (found_by l q) m ≡ some e) (past : any_of (λ (t : Bool × Written). t.0) (early_steps l q) ≡ false)
+    module _ (e : Entry) (f : find (found_by l q) m ≡ Some e) (past : any_of (λ (t : Bool × Written). t.0) (early_steps l q) ≡ false)
         (b : (hits l q e).bytes ≡ line 1 attributes 0 code address 0) (after : Ledger) (v : Undisturbed q.strand (kind_side q.kind) l after)
         (size used : ℕ) (aligned : used % 2 ^ size ≡ 0) (page : used / code_bytes code ≡ q.used / code_bytes code) where
       good : word_sound e.word ≡ true
@@ -307,7 +305,7 @@ module _ {n : Counts} {u : State} {l : Ledger} (h : Alike n u l) (q : Asked) (s 
           let begins : page_start code q.used ≡ x.page = rw coded at (eqb-true (page_start (size_code x) q.used) x.page held) in
           rw (is, reaches-holds x t live used, coded) (eq-eqb (page_start code used) x.page (start ∙ begins))
 
-      near-found : find (found_by after (near size used)) (after.entries (kind_side q.kind)) ≡ some e
+      near-found : find (found_by after (near size used)) (after.entries (kind_side q.kind)) ≡ Some e
       unfolding is_at
       near-found =
           let found : found_by l (near size used) e ≡ true = and_both _ _ (and_left (owned e) _ stands.0) near-reached in
@@ -340,8 +338,8 @@ module _ {n : Counts} {u : State} {l : Ledger} (h : Alike n u l) (q : Asked) (s 
         go : (o : Option Entry) → find (found_by l q) m ≡ o → any_of (λ (t : Bool × Written). t.0) (early_steps l q) ≡ false
             → (looked_up l q o).bytes ≡ line 1 attributes 0 code address 0
             → (accesses after (near size used)).bytes ≡ line 1 attributes 0 code (address - q.used % code_bytes code + used % code_bytes code) 0
-        go none f past t = absurd (no-trap l q attributes code address _ _ 0 t)
-        go (some e) f past t =
+        go None f past t = absurd (no-trap l q attributes code address _ _ 0 t)
+        go (Some e) f past t =
             rw (
               fit_none (early_steps after (near size used)) _ (near-past e f past t after v size used aligned page),
               near-found e f past t after v size used aligned page,

@@ -1,6 +1,7 @@
 -- What can take a live entry from a side of the unit: nothing but the commands of `Removes`, over any number of slots.
 -- An entry holds its word, so a live entry's word never changes in place: it stays as it is, or it is taken.
 -- Assumes nothing.
+use Rattle.std.proofs.Common.{Some, None, Ok, Err, Option, Result}
 use Prim.Native.Nat.{ℕ, zero, suc, ◌+◌, ◌/◌, ◌%◌, ◌^◌, ◌≤◌, ◌<◌}
 use mathlib.Core.Path.{◌≡◌, refl, ap, sym, ◌∙◌}
 use mathlib.Core.Bool.{Bool, true, false, not, ◌&&◌}
@@ -28,19 +29,13 @@ use Rattle.machine.specs.declared.Access.{Access}
 use Rattle.machine.specs.declared.Translation.{Translation}
 use Rattle.machine.specs.declared.Prepared.{Prepared}
 use Rattle.machine.specs.declared.Prepared.TheVariants as prepared
-use Rattle.machine.specs.declared.Judged.{Judged}
-use Rattle.machine.specs.declared.Judged.TheVariants as judged
 use Rattle.machine.specs.Step.{act, step_by, step, insert_step}
 use Rattle.machine.specs.Ledger.{Entry, overlap, unlocked, is_of, is_at, in_context, in_partition, Miss}
 use Rattle.machine.specs.Frame.{Framed, entry_in}
 use Rattle.machine.specs.Frame.{LivesIn, Lives, Removes, invalidated, overlapped, demapped_page, demapped_context, demapped_all, displaced}
 use Rattle.machine.specs.declared.Slot.{Slot}
-use Rattle.machine.specs.declared.Placed.{Placed}
-use Rattle.machine.specs.declared.Placed.TheVariants as placement
 use Rattle.machine.specs.declared.Command.{Command}
 use Rattle.machine.specs.declared.Command.TheVariants as command
-use Rattle.machine.specs.declared.Verdict.{Verdict}
-use Rattle.machine.specs.declared.Verdict.TheVariants.{Passed, Refused}
 use Rattle.machine.proofs.Words.{insertable-sound}
 use Rattle.machine.proofs.Insertion.{count-removed, count_set-used, displaced_share, new_share, count-inserted, PlacedSays, placed-says}
 use Rattle.machine.proofs.Sound.{entry-live, owner-parts, sound-slot}
@@ -50,6 +45,9 @@ use Rattle.machine.proofs.State.{StrandSound, strand-sound, sound-registers, sou
 use Rattle.machine.proofs.State.{Insertable, insertable, insert-insertable}
 use Rattle.machine.proofs.Alike.{hit}
 use Rattle.machine.proofs.Sides.{SameTest, overlap-test, page-test, context-test, partition-test, live_test, same_entry, entry-self, entry-same}
+use Rattle.machine.specs.declared.Refusal.{Refusal}
+use Rattle.machine.specs.declared.Trap.{Trap}
+use Rattle.machine.specs.declared.NoSlot.{NoSlot}
 
 ruleset conj = (and_left, and_right, eqb-true, ltb-true)
 
@@ -118,15 +116,15 @@ module _ (s : List Slot) (k : side_sound s ≡ true) (new : Slot) (a : slot_soun
     abbrev Kept : Type 0
     Kept = LivesIn (inserted candidate new s) e ⊎ ((overlap (entry_in new) e ≡ true) ⊎ ((any_of is_empty s ≡ false) × Apart × (unlocked e ≡ true)))
 
-    placed-frame : 1 ≤ left → (r : Placed) → PlacedSays candidate new s r
+    placed-frame : 1 ≤ left → (r : Result (Option Slot) NoSlot) → PlacedSays candidate new s r
         → count same (inserted candidate new s) + displaced_share same r ≡ left + new_share same new r → Kept
-    placed-frame c placement.Done w f = inl (count-lives (inserted candidate new s) e (omega arith))
-    placed-frame c (placement.Displaced d) w f = by-test (same d)
+    placed-frame c (Ok None) w f = inl (count-lives (inserted candidate new s) e (omega arith))
+    placed-frame c (Ok (Some d)) w f = by-test (same d)
         (λ t.
         let g : e ≡ entry_in d = entry-same e _ (and_right (is_live d) _ t) in
         inr (inr (w.full, apart-lives w.apart, rw g (and_right (is_live d) _ w.allowed))))
         (λ t. inl (count-lives (inserted candidate new s) e (omega (arith, ap tick t))))
-    placed-frame c placement.Refused w f = inl (count-lives (inserted candidate new s) e (omega arith))
+    placed-frame c (Err _) w f = inl (count-lives (inserted candidate new s) e (omega arith))
 
     -- what does not overlap it and is not displaced stays
     pub inserted-frame : Kept
@@ -197,9 +195,9 @@ module _ (n : Counts) (u : State) (side : ℕ) (e : Entry) (h : sound n u ≡ tr
       (λ f. rw f (side-frame strand flags word s (rw f at i)))
 
   -- an access marks the entry that it finds, and writes registers
-  judged-frame : (v : State) (a : Access) (p : Translation) (j : Judged) → Lives v side e → Lives (settle_judged v a p j).state side e
-  judged-frame v a p (judged.Faulted t) g = g
-  judged-frame v a p judged.Permitted g = g
+  judged-frame : (v : State) (a : Access) (p : Translation) (j : Result (Unit {0}) Trap) → Lives v side e → Lives (settle_judged v a p j).state side e
+  judged-frame v a p (Err t) g = g
+  judged-frame v a p (Ok _) g = g
 
   looked-frame : (a : Access) (f : Looked) → a.side < 2 → Lives (settle_looked u a f).state side e
   looked-frame a miss d = l
@@ -215,7 +213,7 @@ module _ (n : Counts) (u : State) (side : ℕ) (e : Entry) (h : sound n u ≡ tr
   settled-frame a prepared.Lookup d = looked-frame a (lookup (lookup_key u.registers a) (side_of u a.side)) d
 
   -- every command that no question refused
-  act-frame : (hv : Bool) (c : Command) → verdict hv u c ≡ Passed → Lives (act u c).state side e ⊎ Removes u side e c
+  act-frame : (hv : Bool) (c : Command) → verdict hv u c ≡ Ok tt → Lives (act u c).state side e ⊎ Removes u side e c
   unfolding act asked all_of is_of is_at in_context in_partition removes
   act-frame hv (command.Write strand number value) v = inl l
   act-frame hv (command.Insert strand other flags word) v =
@@ -248,13 +246,13 @@ module _ (n : Counts) (u : State) (side : ℕ) (e : Entry) (h : sound n u ≡ tr
 -- ---- the laws
 -- a live entry stays, the same in all its parts, or the command was accepted and is one that takes it
 by_command_lem : (hv : Bool) (n : Counts) (u : State) (c : Command) (side : ℕ) (e : Entry) → sound n u ≡ true → side < 2 → Lives u side e
-    → Lives (step hv u c).state side e ⊎ ((verdict hv u c ≡ Passed) × Removes u side e c)
+    → Lives (step hv u c).state side e ⊎ ((verdict hv u c ≡ Ok tt) × Removes u side e c)
 unfolding step
 by_command_lem hv n u c side e h b l = go (verdict hv u c) refl
   where
-    go : (v : Verdict) → verdict hv u c ≡ v → Lives (step_by v u c).state side e ⊎ ((verdict hv u c ≡ Passed) × Removes u side e c)
-    go Passed v = ⊎_elim inl (λ r. inr (v, r)) (act-frame n u side e h b l hv c v)
-    go (Refused r) v = inl l
+    go : (v : Result (Unit {0}) Refusal) → verdict hv u c ≡ v → Lives (step_by v u c).state side e ⊎ ((verdict hv u c ≡ Ok tt) × Removes u side e c)
+    go (Ok _) v = ⊎_elim inl (λ r. inr (v, r)) (act-frame n u side e h b l hv c v)
+    go (Err r) v = inl l
 
 -- .. or the miss was served, by an insertion that takes it
 module _ (n : Counts) (u : State) (strand at side : ℕ) (e : Entry) (h : sound n u ≡ true) (b : side < 2) (l : Lives u side e) where
@@ -268,9 +266,9 @@ module _ (n : Counts) (u : State) (strand at side : ℕ) (e : Entry) (h : sound 
       c : Command
       c = command.Insert strand at 0 word
 
-      go : (v : Verdict) → ask (asked_insertion u strand at 0 word) ≡ v → Lives (step_by v u c).state side e ⊎ Taken (step_by v u c)
-      go Passed v = ⊎_elim inl (λ r. inr (word, refl, r)) (insert-frame n u side e h b l strand at 0 word s d (insertable u strand at 0 word v))
-      go (Refused r) v = inl l
+      go : (v : Result (Unit {0}) Refusal) → ask (asked_insertion u strand at 0 word) ≡ v → Lives (step_by v u c).state side e ⊎ Taken (step_by v u c)
+      go (Ok _) v = ⊎_elim inl (λ r. inr (word, refl, r)) (insert-frame n u side e h b l strand at 0 word s d (insertable u strand at 0 word v))
+      go (Err r) v = inl l
 
   miss-taken : {m : Miss} {t : Stepped} → MissAlike u strand at m t → Lives t.state side e ⊎ Taken t
   miss-taken (refuses r) = inl l

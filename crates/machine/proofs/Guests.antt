@@ -1,6 +1,7 @@
 -- Guests are confined: registers that mode 1 may not write stay, and of what can take a locked entry (`Removes`) nothing is left to a stranger in a stream
 -- without the mark.
 -- Assumes nothing.
+use Rattle.std.proofs.Common.{Ok}
 use Prim.Native.Nat.{ℕ, suc, ◌≤◌, ◌<◌}
 use mathlib.Core.Path.{◌≡◌, refl, sym, ap, ◌∙◌}
 use mathlib.Core.Bool.{Bool, true, false, cond, ◌&&◌}
@@ -28,7 +29,6 @@ use Rattle.machine.specs.Guests.{names, Named, Guests, Confined, Unmarked, none,
 use Rattle.machine.specs.declared.Slot.{Slot}
 use Rattle.machine.specs.declared.Command.{Command}
 use Rattle.machine.specs.declared.Command.TheVariants as command
-use Rattle.machine.specs.declared.Verdict.TheVariants.{Passed}
 use Rattle.machine.proofs.State.{passed-asked}
 use Rattle.machine.proofs.Alike.{hit, SideAlike, ReferenceAlike}
 use Rattle.machine.proofs.Sides.{eqb-self, same_entry, entry-self, entry-same}
@@ -110,7 +110,7 @@ module _ (u : State) (side : ℕ) (e : Entry) (locked : e.locked ≡ true) where
   lock-held : unlocked e ≡ true → ⊥
   lock-held t = clash (rw locked at t) refl
 
-  spared : {c : Command} → Removes u side e c → verdict false u c ≡ Passed → Strangers c → ⊥
+  spared : {c : Command} → Removes u side e c → verdict false u c ≡ Ok tt → Strangers c → ⊥
   unfolding asked permitted all_of names
   spared invalidated v far = let q = passed-asked false u _ v in clash (and_right (ltb side 2) false q) refl
   spared (overlapped {strand} p t) v far = let q = passed-asked false u _ v in far strand (search conj) (eqb-self strand) p

@@ -1,5 +1,6 @@
 -- Laws of overlap, removal and insertion on the slots of one side: any number of slots, any test for candidates.
 -- Assumes nothing.
+use Rattle.std.proofs.Common.{Some, None, Ok, Err, Option, Result}
 use Prim.Native.Nat.{ℕ, zero, suc, ◌+◌, ◌≤◌, ◌<◌}
 use mathlib.Core.Path.{◌≡◌, refl, ap, sym, ◌∙◌}
 use mathlib.Core.Bool.{Bool, true, false, not, ◌&&◌, ◌||◌, or-true, or-false, or_assoc, or_comm}
@@ -11,8 +12,6 @@ use lib.Dec.{leb}
 use lib.ListN.{length, get_or, set, length-map, length-set, get_or-map}
 use borrow.Author.Tests.{eq-eqb, eqb-true, leb-true, leb-false, not-true}
 use Rattle.laws.specs.Tests.{tick, count, any_of, first}
-use Rattle.laws.specs.declared.Found.{Found}
-use Rattle.laws.specs.declared.Found.TheVariants.{At, Nothing}
 use Rattle.laws.proofs.Bools.{by-test, both_ways, clash, and_left, and_right, or_left, or_right, or-other}
 use Rattle.laws.proofs.Counts.{count_set, count_map, count_same}
 use Rattle.laws.proofs.Walks.{any_at, found_at, found_none}
@@ -24,9 +23,8 @@ use Rattle.machine.specs.declared.Wanted.{Wanted}
 use Rattle.machine.specs.declared.Wanted.TheVariants as wanted
 use Rattle.machine.specs.declared.Choice.{Choice}
 use Rattle.machine.specs.declared.Choice.TheVariants.{Empty, Unused, Cleared, Full}
-use Rattle.machine.specs.declared.Placed.{Placed}
-use Rattle.machine.specs.declared.Placed.TheVariants.{Done, Displaced, Refused}
 use Rattle.machine.proofs.Pages.{round-round}
+use Rattle.machine.specs.declared.NoSlot.{NoSlot}
 
 ruleset conj = (and_left, and_right, eqb-true)
 
@@ -124,25 +122,25 @@ module _ (cand : Slot → Bool) (s : List Slot) where
   unfolding choice wants
   choice-says = go (found wanted.Empty) (found wanted.Unused) (found wanted.Candidate) refl refl refl
     where
-      found : Wanted → Found
+      found : Wanted → Option ℕ
       found w = first (wants cand w) s
 
-      none : (w : Wanted) → found w ≡ Nothing → any_of (wants cand w) s ≡ false
+      none : (w : Wanted) → found w ≡ None → any_of (wants cand w) s ≡ false
       none w = found_none no_slot (wants cand w) s
 
-      at : (w : Wanted) (i : ℕ) → found w ≡ At i → (i < length s) × (wants cand w (get_or s i no_slot) ≡ true)
+      at : (w : Wanted) (i : ℕ) → found w ≡ Some i → (i < length s) × (wants cand w (get_or s i no_slot) ≡ true)
       at w = found_at no_slot (wants cand w) s
 
-      go : (a b c : Found) → found wanted.Empty ≡ a → found wanted.Unused ≡ b → found wanted.Candidate ≡ c
+      go : (a b c : Option ℕ) → found wanted.Empty ≡ a → found wanted.Unused ≡ b → found wanted.Candidate ≡ c
           → Chosen (found_or a Empty (found_or b Unused (found_or c Cleared Full)))
-      go (At i) b c e f g = at wanted.Empty i e
-      go Nothing (At i) c e f g =
+      go (Some i) b c e f g = at wanted.Empty i e
+      go None (Some i) c e f g =
           let h = at wanted.Unused i f in
           (none wanted.Empty e, h.0, and_left (cand _) _ h.1, not-true _ (and_right (cand (get_or s i no_slot)) _ h.1))
-      go Nothing Nothing (At i) e f g =
+      go None None (Some i) e f g =
           let h = at wanted.Candidate i g in
           (none wanted.Empty e, none wanted.Unused f, h.0, h.1)
-      go Nothing Nothing Nothing e f g = (none wanted.Empty e, none wanted.Candidate g)
+      go None None None e f g = (none wanted.Empty e, none wanted.Candidate g)
 
   -- a slot is chosen where one is empty or holds a candidate
   pub chosen-any : is_chosen (choice cand s) ≡ (any_of is_empty s || any_of cand s)
@@ -155,10 +153,10 @@ module _ (cand : Slot → Bool) (s : List Slot) where
       go Full h = rw (h.0, h.1)
 
 -- ---- number 13
-abbrev pub is_refused : Placed → Bool
-is_refused Done = false
-is_refused (Displaced d) = false
-is_refused Refused = true
+abbrev pub is_refused : Result (Option Slot) NoSlot → Bool
+is_refused (Ok None) = false
+is_refused (Ok (Some d)) = false
+is_refused (Err _) = true
 
 module _ (cand : Slot → Bool) (new : Slot) (s : List Slot) where
   -- whether a slot is to be had, asked before anything is removed
@@ -183,14 +181,14 @@ module _ (cand : Slot → Bool) (new : Slot) (s : List Slot) where
       refused t Full = refl
 
   -- where none is, it comes to a refusal and leaves the slots
-  pub no_slot_lem : has_slot cand new s ≡ false → (placed cand new s ≡ Refused) × (inserted cand new s ≡ s)
+  pub no_slot_lem : has_slot cand new s ≡ false → (placed cand new s ≡ Err (record {})) × (inserted cand new s ≡ s)
   unfolding placed inserted
   no_slot_lem e =
       let f : (is_chosen (choice cand s) || any_of (overlaps new) s) ≡ false = sym had-choice ∙ e in
       let apart : any_of (overlaps new) s ≡ false = or_right (is_chosen (choice cand s)) _ f in
       rw (removed-none (overlaps new) s apart) (go (choice cand s) (or_left _ _ f))
     where
-      go : (c : Choice) → is_chosen c ≡ false → (displaced_by s c ≡ Refused) × (stored new s c ≡ s)
+      go : (c : Choice) → is_chosen c ≡ false → (displaced_by s c ≡ Err (record {})) × (stored new s c ≡ s)
       go (Empty i) t = clash refl t
       go (Unused i) t = clash refl t
       go (Cleared i) t = clash refl t
@@ -208,10 +206,10 @@ module _ (cand : Slot → Bool) (new : Slot) (s : List Slot) where
     pub there : get_or s index no_slot ≡ d
     pub chosen : ((choice cand s ≡ Unused index) × (is_used d ≡ false)) ⊎ ((choice cand s ≡ Cleared index) × (any_of (wants cand wanted.Unused) s ≡ false))
 
-  abbrev pub PlacedSays : Placed → Type 0
-  PlacedSays Done = (any_of is_empty s || any_of (overlaps new) s) ≡ true
-  PlacedSays (Displaced d) = Displacement d
-  PlacedSays Refused = (any_of is_empty s ≡ false) × (any_of cand s ≡ false) × (any_of (overlaps new) s ≡ false)
+  abbrev pub PlacedSays : Result (Option Slot) NoSlot → Type 0
+  PlacedSays (Ok None) = (any_of is_empty s || any_of (overlaps new) s) ≡ true
+  PlacedSays (Ok (Some d)) = Displacement d
+  PlacedSays (Err _) = (any_of is_empty s ≡ false) × (any_of cand s ≡ false) × (any_of (overlaps new) s ≡ false)
 
   -- an empty or an overlapping entry's slot is taken; else an entry is displaced; else, with no candidate, the insertion is refused
   pub placed-says : PlacedSays (placed cand new s)
@@ -248,15 +246,15 @@ length_inserted cand new s = go (removed (overlaps new) s) (choice cand (removed
 
 -- ---- counts under an insertion
 -- what the displaced entry had, and what the new one brings
-abbrev pub displaced_share : (Slot → Bool) → Placed → ℕ
-displaced_share p Done = 0
-displaced_share p (Displaced d) = tick (p d)
-displaced_share p Refused = 0
+abbrev pub displaced_share : (Slot → Bool) → Result (Option Slot) NoSlot → ℕ
+displaced_share p (Ok None) = 0
+displaced_share p (Ok (Some d)) = tick (p d)
+displaced_share p (Err _) = 0
 
-abbrev pub new_share : (Slot → Bool) → Slot → Placed → ℕ
-new_share p new Done = tick (p new)
-new_share p new (Displaced d) = tick (p new)
-new_share p new Refused = 0
+abbrev pub new_share : (Slot → Bool) → Slot → Result (Option Slot) NoSlot → ℕ
+new_share p new (Ok None) = tick (p new)
+new_share p new (Ok (Some d)) = tick (p new)
+new_share p new (Err _) = 0
 
 -- for a test of entries that is blind to the used bit
 module _ (p : Slot → Bool) (lives : (x : Slot) → is_empty x ≡ true → p x ≡ false) (blind : (x : Slot) → p (without_used x) ≡ p x)

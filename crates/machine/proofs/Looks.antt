@@ -1,5 +1,6 @@
 -- One access of the unit and of the ledger, all but the lookup: the address used, the steps before the lookup, a miss, and what a found entry's word says.
 -- Assumes nothing.
+use Rattle.std.proofs.Common.{Some, None, Option}
 use Prim.Native.Nat.{ℕ, ◌+◌, ◌*◌, ◌-◌, ◌/◌, ◌%◌, ◌^◌, ◌≤◌, ◌<◌}
 use mathlib.Core.Path.{◌≡◌, refl, ap, sym, ◌∙◌}
 use mathlib.Core.Bool.{Bool, true, false, not, cond, ◌&&◌, ◌||◌, and_comm, and-false}
@@ -23,8 +24,6 @@ use Rattle.machine.specs.Access.{address_used, exception, trap_tag, bypass_to, p
 use Rattle.machine.specs.Access.{fault_type, judge, trap_number, trap_fault, trap_registers, Stepped, trap_to}
 use Rattle.machine.specs.Access.{translated_by, settle_judged, settle_looked, settle, access_to}
 use Rattle.machine.specs.declared.Access.{Access}
-use Rattle.machine.specs.declared.Tag.{Tag}
-use Rattle.machine.specs.declared.Tag.TheVariants as effect
 use Rattle.machine.specs.declared.Prepared.{Prepared}
 use Rattle.machine.specs.declared.Prepared.TheVariants as prepared
 use Rattle.machine.specs.Stream.{answer_bytes}
@@ -175,7 +174,7 @@ bypass-told a =
 
 -- the trap of an access that I/O space does not take
 abbrev io-trap : ℕ → Prepared
-io-trap fault = prepared.Stopped (trap.DataAccessException fault) (effect.Written 0)
+io-trap fault = prepared.Stopped (trap.DataAccessException fault) (Some 0)
 
 -- the unit's step is three of the ledger's
 three-steps : (hyper io four three : Bool) (p rest : Prepared)
@@ -216,9 +215,9 @@ used-alike {u} k strand address s =
 
 -- ---- an access of a known strand and selector
 -- the ledger's trap, by what it does to tag access: its `plain_trap` at fault type 0, its `trap_with`
-abbrev pub trap_of : Ledger → Asked → ℕ → ℕ → Tag → Written
-trap_of l b number type effect.Kept = answers (faults l b number type) (line 2 number type 0 b.used (tag_of l b.strand (asked_side b)))
-trap_of l b number type (effect.Written context) = trap_with l b context number type
+abbrev pub trap_of : Ledger → Asked → ℕ → ℕ → Option ℕ → Written
+trap_of l b number type None = answers (faults l b number type) (line 2 number type 0 b.used (tag_of l b.strand (asked_side b)))
+trap_of l b number type (Some context) = trap_with l b context number type
 
 -- an access before the lookup: both go on to it, or both have ended alike and left the slots
 pub data Early (n : Counts) (u : State) (a : Access) (p : Prepared) (ss : List (Bool × Written)) : Type 0 where
@@ -271,7 +270,7 @@ module _ {n : Counts} {u : State} {l : Ledger} (k : Alike n u l) (q : Asked) (s 
       alike-registers j a.strand _ value s (omega arith) (allowed-any _ value (omega arith) (omega arith))
 
   -- a trap's answer names the tag access after it
-  trap-told : (t : Trap) (tag : Tag) (m : Ledger) (value : ℕ) → trap_fault t < 256 → Alike n (trap_to u a t tag).state m
+  trap-told : (t : Trap) (tag : Option ℕ) (m : Ledger) (value : ℕ) → trap_fault t < 256 → Alike n (trap_to u a t tag).state m
       → m.registers a.strand (20 + kind_side a.kind) ≡ value
       → answer_bytes (trap_to u a t tag).answer ≡ line 2 (trap_number t) (trap_fault t) 0 a.used.0 value
   unfolding answer_bytes
@@ -279,30 +278,30 @@ module _ {n : Counts} {u : State} {l : Ledger} (k : Alike n u l) (q : Asked) (s 
       let side = kind_side_lem a.kind in
       rw (← e, j.registers a.strand (20 + kind_side a.kind) s (omega arith)) (line-answer 2 a.used.0 _ (number_small t) h (omega arith))
 
-  pub trap-alike : (t : Trap) (tag : Tag) → trap_fault t < 256 → StepAlike n (trap_to u a t tag) (trap_of l q (trap_number t) (trap_fault t) tag)
+  pub trap-alike : (t : Trap) (tag : Option ℕ) → trap_fault t < 256 → StepAlike n (trap_to u a t tag) (trap_of l q (trap_number t) (trap_fault t) tag)
   unfolding trap_registers trap_with
   trap-alike t tag h = by-tag tag
     where
       side : ℕ
       side = kind_side a.kind
 
-      faulted-alike : Alike n (trap_to u a t effect.Kept).state (faults l q (trap_number t) (trap_fault t))
+      faulted-alike : Alike n (trap_to u a t None).state (faults l q (trap_number t) (trap_fault t))
       faulted-alike = trap-written (trap-written k 2 _ (omega arith)) 4 _ (omega arith)
 
       -- register 20 is neither 22 nor 24
       other : (r : ℕ) → 20 < r → (eqb a.strand a.strand && eqb (20 + side) (r + side)) ≡ false
       other r g = rw (ne_eqb (20 + side) (r + side) (λ e. omega arith)) (and-false (eqb a.strand a.strand))
 
-      by-tag : (tag : Tag) → StepAlike n (trap_to u a t tag) (trap_of l q (trap_number t) (trap_fault t) tag)
-      by-tag effect.Kept = record {
-        bytes = trap-told t effect.Kept _ _ h faulted-alike (rw (other 24 (omega arith), other 22 (omega arith)));
+      by-tag : (tag : Option ℕ) → StepAlike n (trap_to u a t tag) (trap_of l q (trap_number t) (trap_fault t) tag)
+      by-tag None = record {
+        bytes = trap-told t None _ _ h faulted-alike (rw (other 24 (omega arith), other 22 (omega arith)));
         alike = faulted-alike;
       }
-      by-tag (effect.Written context) =
-          let j : Alike n (trap_to u a t (effect.Written context)).state _ = trap-written faulted-alike 0 (registers.tag_of a.used.0 context)
+      by-tag (Some context) =
+          let j : Alike n (trap_to u a t (Some context)).state _ = trap-written faulted-alike 0 (registers.tag_of a.used.0 context)
           (omega arith) in
           rw (tag-alike a.used.0 context) (record {
-            bytes = trap-told t (effect.Written context) _ _ h j (rw (eq-eqb a.strand a.strand refl, eq-eqb (20 + side) (20 + side) refl));
+            bytes = trap-told t (Some context) _ _ h j (rw (eq-eqb a.strand a.strand refl, eq-eqb (20 + side) (20 + side) refl));
             alike = j;
           })
 
@@ -331,11 +330,11 @@ module _ {n : Counts} {u : State} {l : Ledger} (k : Alike n u l) (q : Asked) (s 
       let io : Bool = eqb (bit 39 q.used) 1 in
       let stops : (kind : ℕ) → (eqb (l.registers a.strand 3) 2 && (io && eqb a.kind kind)) ≡ (hyper && (io && eqb a.kind kind)) = λ kind. rw m in
       rw (step-3 hyper a.kind a.used)
-      (early-next _ (prepared.Stopped trap.AddressNotAligned effect.Kept) refl (refl, refl) (trap-alike trap.AddressNotAligned effect.Kept (omega arith))
-      (early-next nucleus (prepared.Stopped trap.PrivilegedAction effect.Kept) data-nucleus (refl, refl)
-      (trap-alike trap.PrivilegedAction effect.Kept (omega arith))
-      (early-next _ (io-trap 0x02) (stops 4) (refl, refl) (trap-alike (trap.DataAccessException 0x02) (effect.Written 0) (omega arith))
-      (early-next _ (io-trap 0x04) (stops 3) (refl, refl) (trap-alike (trap.DataAccessException 0x04) (effect.Written 0) (omega arith))
+      (early-next _ (prepared.Stopped trap.AddressNotAligned None) refl (refl, refl) (trap-alike trap.AddressNotAligned None (omega arith))
+      (early-next nucleus (prepared.Stopped trap.PrivilegedAction None) data-nucleus (refl, refl)
+      (trap-alike trap.PrivilegedAction None (omega arith))
+      (early-next _ (io-trap 0x02) (stops 4) (refl, refl) (trap-alike (trap.DataAccessException 0x02) (Some 0) (omega arith))
+      (early-next _ (io-trap 0x04) (stops 3) (refl, refl) (trap-alike (trap.DataAccessException 0x04) (Some 0) (omega arith))
       (early-next _ (prepared.Bypass (bypass_to a.used)) (ap (λ x. eqb x 2) m) (refl, refl) (record { bytes = bypass-told a.used; alike = k })
       (early-next _ (prepared.Stopped (exception a.kind 0x20) (trap_tag u.registers a)) (ap not (address_good_lem a.used.0)) (refl, refl)
       (tagged-alike (exception a.kind 0x20) (exception-number a.kind 0x20) (exception-fault a.kind 0x20) (omega arith))

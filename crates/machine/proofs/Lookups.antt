@@ -1,4 +1,5 @@
 -- Only an access that looks up changes a miss record, and only that of its strand and side. Assumes nothing.
+use Rattle.std.proofs.Common.{Ok, Err, Result}
 use Prim.Native.Nat.{ℕ, ◌<◌}
 use mathlib.Core.Path.{◌≡◌, refl, sym, ◌∙◌}
 use mathlib.Core.Bool.{Bool, true, false, ◌&&◌}
@@ -22,21 +23,19 @@ use Rattle.machine.specs.declared.Access.{Access}
 use Rattle.machine.specs.declared.Translation.{Translation}
 use Rattle.machine.specs.declared.Prepared.{Prepared}
 use Rattle.machine.specs.declared.Prepared.TheVariants as prepared
-use Rattle.machine.specs.declared.Judged.{Judged}
-use Rattle.machine.specs.declared.Judged.TheVariants as judged
 use Rattle.machine.specs.declared.Command.{Command}
 use Rattle.machine.specs.declared.Command.TheVariants as command
-use Rattle.machine.specs.declared.Verdict.{Verdict}
-use Rattle.machine.specs.declared.Verdict.TheVariants.{Passed, Refused}
 use Rattle.machine.proofs.State.{sound-registers, sound-records, passed-asked, kind_side_lem}
 use Rattle.machine.proofs.Records.{record-seen, record-newest, record-older, noted-alike, records_sound_lem, records-back}
+use Rattle.machine.specs.declared.Refusal.{Refusal}
+use Rattle.machine.specs.declared.Trap.{Trap}
 
 ruleset conj = (and_left, and_right, ltb-true)
 
 -- what is found changes no record
-judged-records : (u : State) (a : Access) (p : Translation) (j : Judged) → (settle_judged u a p j).state.records ≡ u.records
-judged-records u a p (judged.Faulted t) = refl
-judged-records u a p judged.Permitted = refl
+judged-records : (u : State) (a : Access) (p : Translation) (j : Result (Unit {0}) Trap) → (settle_judged u a p j).state.records ≡ u.records
+judged-records u a p (Err t) = refl
+judged-records u a p (Ok _) = refl
 
 pub looked-records : (u : State) (a : Access) (f : Looked) → (settle_looked u a f).state.records ≡ u.records
 looked-records u a miss = refl
@@ -45,10 +44,10 @@ looked-records u a (hit i r) =
     judged-records (with_side u a.side (set_used i (side_of u a.side))) a (translated_by word r) (judge u.registers a word)
 
 -- nor goes by one
-judged-with : (u : State) (x : Records) (a : Access) (p : Translation) (j : Judged)
+judged-with : (u : State) (x : Records) (a : Access) (p : Translation) (j : Result (Unit {0}) Trap)
     → settle_judged (with_records u x) a p j ≡ stepped (with_records (settle_judged u a p j).state x) (settle_judged u a p j).answer
-judged-with u x a p (judged.Faulted t) = refl
-judged-with u x a p judged.Permitted = refl
+judged-with u x a p (Err t) = refl
+judged-with u x a p (Ok _) = refl
 
 pub looked-with : (u : State) (x : Records) (a : Access) (f : Looked)
     → settle_looked (with_records u x) a f ≡ stepped (with_records (settle_looked u a f).state x) (settle_looked u a f).answer
@@ -88,7 +87,7 @@ module _ (n : Counts) (u : State) (h : sound n u ≡ true) (strand side : ℕ) (
       }
 
   module _ (hv : Bool) (k kind selector size : ℕ) (address : VirtualAddress)
-      (v : verdict hv u (command.Access k kind selector size address) ≡ Passed) where
+      (v : verdict hv u (command.Access k kind selector size address) ≡ Ok tt) where
     abbrev a : Access
     a = access_of u.registers k kind selector size address
 
@@ -114,7 +113,7 @@ module _ (n : Counts) (u : State) (h : sound n u ≡ true) (strand side : ℕ) (
         inr (rw is (looks_up v (sym on) e)))
         (λ t. inl (noted-same t))
 
-  act-record : (hv : Bool) (c : Command) → verdict hv u c ≡ Passed → SameRecord strand side u (act u c).state ⊎ LooksUp hv u strand side c
+  act-record : (hv : Bool) (c : Command) → verdict hv u c ≡ Ok tt → SameRecord strand side u (act u c).state ⊎ LooksUp hv u strand side c
   unfolding act
   act-record hv (command.Write k number value) v = inl (kept refl)
   act-record hv (command.Insert k other flags word) v = inl (kept refl)
@@ -131,18 +130,18 @@ module _ (n : Counts) (u : State) (h : sound n u ≡ true) (strand side : ℕ) (
   unfolding step
   step-record hv c = go (verdict hv u c) refl
     where
-      go : (v : Verdict) → verdict hv u c ≡ v → SameRecord strand side u (step_by v u c).state ⊎ LooksUp hv u strand side c
-      go Passed e = act-record hv c e
-      go (Refused r) e = inl (kept refl)
+      go : (v : Result (Unit {0}) Refusal) → verdict hv u c ≡ v → SameRecord strand side u (step_by v u c).state ⊎ LooksUp hv u strand side c
+      go (Ok _) e = act-record hv c e
+      go (Err r) e = inl (kept refl)
 
 -- ---- a served miss
 insertion-records : (u : State) (strand side word : ℕ) → (insert_step u strand side 0 word).state.records ≡ u.records
 unfolding insert_step act
 insertion-records u strand side word = go (ask (asked_insertion u strand side 0 word))
   where
-    go : (v : Verdict) → (step_by v u (command.Insert strand side 0 word)).state.records ≡ u.records
-    go Passed = refl
-    go (Refused r) = refl
+    go : (v : Result (Unit {0}) Refusal) → (step_by v u (command.Insert strand side 0 word)).state.records ≡ u.records
+    go (Ok _) = refl
+    go (Err r) = refl
 
 served-records : (u : State) (strand side : ℕ) (of_zero of_other : Bytes) → (serve u strand side of_zero of_other).state.records ≡ u.records
 unfolding serve
@@ -151,9 +150,9 @@ served-records u strand side of_zero of_other = go (ask (asked_table u strand si
     entry : (tag word : ℕ) → (serve_entry u strand side tag word).state.records ≡ u.records
     entry tag word = by-test (entry_fits u.registers strand side tag word) (λ e. rw e (insertion-records u strand side word)) (λ e. rw e)
 
-    go : (v : Verdict) → (serve_by v u strand side (table_used u.registers strand side of_zero of_other)).state.records ≡ u.records
-    go Passed = entry _ _
-    go (Refused r) = refl
+    go : (v : Result (Unit {0}) Refusal) → (serve_by v u strand side (table_used u.registers strand side of_zero of_other)).state.records ≡ u.records
+    go (Ok _) = entry _ _
+    go (Err r) = refl
 
 pub lookups : Lookups
 lookups = record { by_command = λ hv n u c strand side h s d. step-record n u h strand side s d hv c; by_miss = served-records }

@@ -1,4 +1,5 @@
 -- A miss and its tables: the unit's questions, place and fit are the ledger's. Assumes nothing.
+use Rattle.std.proofs.Common.{Ok, Err, Result}
 use Prim.Native.Nat.{ℕ, ◌+◌, ◌*◌, ◌/◌, ◌%◌, ◌^◌, ◌≤◌, ◌<◌}
 use mathlib.Core.Path.{◌≡◌, refl, sym, ◌∙◌}
 use mathlib.Core.Bool.{true, cond, ◌&&◌}
@@ -26,8 +27,6 @@ use Rattle.machine.specs.Ledger.{Ledger, value_from, first_no, pointer_of, base_
 use Rattle.machine.specs.Ledger.{entry_place, miss_questions, tag_agrees, word_agrees, Miss, refused, absent, present, miss_in, miss}
 use Rattle.machine.specs.Reference.{Hands}
 use Rattle.machine.specs.declared.Refusal.{Refusal}
-use Rattle.machine.specs.declared.Verdict.{Verdict}
-use Rattle.machine.specs.declared.Verdict.TheVariants.{Passed, Refused}
 use Rattle.machine.specs.declared.Answer.TheVariants as answer
 use Rattle.machine.proofs.Sides.{code_bytes_lem}
 use Rattle.machine.proofs.State.{configuration-listed, kind_side_lem, ask-fine}
@@ -171,7 +170,7 @@ pub record TableLent (u : State) (strand side : ℕ) (of_zero of_other : Bytes) 
   pub sides : side < 2
   pub size : length (table_used u.registers strand side of_zero of_other) ≡ table_length u.registers strand side
 
-pub table-lent : (u : State) (strand side : ℕ) (of_zero of_other : Bytes) → ask (asked_table u strand side of_zero of_other) ≡ Passed
+pub table-lent : (u : State) (strand side : ℕ) (of_zero of_other : Bytes) → ask (asked_table u strand side of_zero of_other) ≡ Ok tt
     → TableLent u strand side of_zero of_other
 unfolding asked_table all_of
 table-lent u strand side of_zero of_other v =
@@ -207,12 +206,12 @@ module _ {n : Counts} {u : State} {l : Ledger} (a : Alike n u l) (strand side : 
       table : Bytes
       table = table_used u.registers strand side of_zero of_other
 
-      go : (v : Verdict) → ask (asked_table u strand side of_zero of_other) ≡ v
+      go : (v : Result (Unit {0}) Refusal) → ask (asked_table u strand side of_zero of_other) ≡ v
           → MissAlike u strand side (miss l strand side of_zero of_other) (serve_by v u strand side table)
-      go (Refused r) e =
+      go (Err r) e =
           let f : first_no (miss_questions l strand side of_zero of_other) ≡ refusal_number r = sym table-number ∙ rw e in
           rw (f, ne_eqb _ 0 (refusal-positive r)) (refuses r)
-      go Passed e =
+      go (Ok _) e =
           let f : first_no (miss_questions l strand side of_zero of_other) ≡ 0 = sym table-number ∙ rw e in
           let t = table-lent u strand side of_zero of_other e in
           rw (
@@ -230,14 +229,14 @@ module _ {n : Counts} {u : State} {l : Ledger} (a : Alike n u l) (strand side : 
   pub hands : Hands l strand side of_zero of_other (part_by (ask (asked_table u strand side of_zero of_other)) u.registers strand side)
   hands = go (ask (asked_table u strand side of_zero of_other)) refl
     where
-      go : (v : Verdict) → ask (asked_table u strand side of_zero of_other) ≡ v → Hands l strand side of_zero of_other (part_by v u.registers strand side)
-      go (Refused r) e = record {
+      go : (v : Result (Unit {0}) Refusal) → ask (asked_table u strand side of_zero of_other) ≡ v → Hands l strand side of_zero of_other (part_by v u.registers strand side)
+      go (Err r) e = record {
         number = rw e at table-number;
         refused = λ _. (refl, refl, refl);
         handed = λ z. absurd (refusal-positive r z);
         within = λ z. absurd (refusal-positive r z);
       }
-      go Passed e =
+      go (Ok _) e =
           let t = table-lent u strand side of_zero of_other e in
           record {
             number = rw e at table-number;

@@ -1,8 +1,8 @@
 -- The unit's slots and the places of the second text: a removal, a lookup and an insertion change both alike, and their words are the same. Assumes nothing.
+use Rattle.std.proofs.Common.{Some, None, Ok, Option}
 use Prim.Native.Nat.{ℕ, zero, suc, ◌+◌, ◌*◌, ◌/◌, ◌%◌, ◌^◌, ◌≤◌, ◌<◌}
 use mathlib.Core.Path.{◌≡◌, refl, ap, ap₂, sym, fun_ext, ◌∙◌}
 use mathlib.Core.Bool.{Bool, true, false, not}
-use mathlib.Core.Option.{some}
 use mathlib.Core.List.{List, [], ◌∷◌, ◌++◌, map, map-map}
 use native.Mathlib.Omega.{arith}
 use lib.Dec.{eqb}
@@ -10,8 +10,6 @@ use lib.ListN.{get_or, set}
 use borrow.Author.Tests.{eqb-true, eqb-false}
 use Rattle.laws.specs.Tests.{tick, count, any_of, all_of, first_from, first}
 use Rattle.laws.specs.Passing.{passing, none_passes, find}
-use Rattle.laws.specs.declared.Found.{Found}
-use Rattle.laws.specs.declared.Found.TheVariants.{At, Nothing}
 use Rattle.laws.proofs.Bools.{by-test, clash, and_left, and_right}
 use Rattle.laws.proofs.Walks.{found-any, found_none}
 use Rattle.laws.proofs.Finds.{none_passes_lem}
@@ -29,7 +27,6 @@ use Rattle.machine.specs.declared.Slot.{Slot}
 use Rattle.machine.specs.declared.Wanted.TheVariants as wanted
 use Rattle.machine.specs.declared.Choice.{Choice}
 use Rattle.machine.specs.declared.Choice.TheVariants.{Empty, Unused, Cleared, Full}
-use Rattle.machine.specs.declared.Placed.TheVariants.{Displaced}
 use Rattle.machine.proofs.Used.{SameSlots}
 use Rattle.machine.proofs.Alike.{place_in, PlacesAlike}
 use Rattle.machine.proofs.Insertion.{is_chosen, is_refused, slot-had, removed-none, Displacement, placed-says}
@@ -48,21 +45,21 @@ module _ {A : Type 0} (g : A → Place) (q : A → Bool) (t : Place → Bool) (e
   none_seen s = none_passes_lem t (map g s) ∙ ap not (any_seen s)
 
   -- what stands there is found, and what is put there is put at the lowest
-  lowest-from : (new : Place) (d : A) (s : List A) (k j : ℕ) → first_from q k s ≡ At j
-      → (i : ℕ) × (j ≡ k + i) × (find t (map g s) ≡ some (g (get_or s i d))) × (set (map g s) i new ≡ at_lowest t new (map g s))
+  lowest-from : (new : Place) (d : A) (s : List A) (k j : ℕ) → first_from q k s ≡ Some j
+      → (i : ℕ) × (j ≡ k + i) × (find t (map g s) ≡ Some (g (get_or s i d))) × (set (map g s) i new ≡ at_lowest t new (map g s))
   unfolding first_from passing at_lowest
   lowest-from new d [] k j h = absurd (let z : ◌≡◌ {A = ℕ} 0 1 = cc in omega arith)
   lowest-from new d (x ∷ s) k j h = by-test (q x)
       (λ f.
-      let at : At k ≡ At j = rw f at h in
+      let at : Some k ≡ Some j = rw f at h in
       let here : k ≡ j = cc in
       (0, omega arith, rw (← (e x), f), rw (← (e x), f)))
       (λ f.
       let (i, n, a, b) = lowest-from new d s (suc k) j (rw f at h) in
       (suc i, omega arith, rw (← (e x), f) a, rw (← (e x), f) (ap (λ (r : List Place). g x ∷ r) b)))
 
-  lowest : (new : Place) (d : A) (s : List A) (i : ℕ) → first q s ≡ At i
-      → (find t (map g s) ≡ some (g (get_or s i d))) × (set (map g s) i new ≡ at_lowest t new (map g s))
+  lowest : (new : Place) (d : A) (s : List A) (i : ℕ) → first q s ≡ Some i
+      → (find t (map g s) ≡ Some (g (get_or s i d))) × (set (map g s) i new ≡ at_lowest t new (map g s))
   lowest new d s i h =
       let (j, n, a, b) = lowest-from new d s 0 i h in
       let same : j ≡ i = omega arith in
@@ -137,20 +134,20 @@ module _ {q : Slot → Bool} {p : Entry → Bool} (t : SameTest q p) where
       (λ e. absurd (omega (arith, ap tick e)))
       (λ e. ap₂ (λ y r. y ∷ r) (used-not x (and_left _ _ h) e) (used-none s (and_right (slot_sound x) _ h) (omega (arith, ap tick e))))
 
-  used-from : (s : List Slot) (k j : ℕ) → all_of slot_sound s ≡ true → count q s ≤ 1 → first_from q k s ≡ At j
+  used-from : (s : List Slot) (k j : ℕ) → all_of slot_sound s ≡ true → count q s ≤ 1 → first_from q k s ≡ Some j
       → (i : ℕ) × (j ≡ k + i) × (map place_in (set_used i s) ≡ map (used_where p) (map place_in s))
   unfolding first_from all_of count
   used-from [] k j h one f = absurd (let z : ◌≡◌ {A = ℕ} 0 1 = cc in omega arith)
   used-from (x ∷ s) k j h one f = by-test (q x)
       (λ e.
-      let at : At k ≡ At j = rw e at f in
+      let at : Some k ≡ Some j = rw e at f in
       let here : k ≡ j = cc in
       (0, omega arith, ap₂ (λ y r. y ∷ r) (used-here x (and_left _ _ h) e) (used-none s (and_right (slot_sound x) _ h) (omega (arith, ap tick e)))))
       (λ e.
       let (i, n, m) = used-from s (suc k) j (and_right (slot_sound x) _ h) (omega (arith, ap tick e)) (rw e at f) in
       (suc i, omega arith, ap₂ (λ y r. y ∷ r) (used-not x (and_left _ _ h) e) m))
 
-  pub used-side : (s : List Slot) (i : ℕ) → side_sound s ≡ true → count q s ≤ 1 → first q s ≡ At i
+  pub used-side : (s : List Slot) (i : ℕ) → side_sound s ≡ true → count q s ≤ 1 → first q s ≡ Some i
       → map place_in (set_used i s) ≡ map (used_where p) (map place_in s)
   unfolding side_sound
   used-side s i h one f =
@@ -166,21 +163,21 @@ module _ {q : Slot → Bool} {p : Entry → Bool} (t : SameTest q p) where
 module _ (s : List Slot) where
   -- what was looked for, and found or not, before a choice
   abbrev ChosenBy : Choice → Type 0
-  ChosenBy (Empty i) = first is_empty s ≡ At i
-  ChosenBy (Unused i) = (first is_empty s ≡ Nothing) × (first (wants candidate wanted.Unused) s ≡ At i)
-  ChosenBy (Cleared i) = (first is_empty s ≡ Nothing) × (first (wants candidate wanted.Unused) s ≡ Nothing) × (first (wants candidate wanted.Candidate) s ≡ At i)
+  ChosenBy (Empty i) = first is_empty s ≡ Some i
+  ChosenBy (Unused i) = (first is_empty s ≡ None) × (first (wants candidate wanted.Unused) s ≡ Some i)
+  ChosenBy (Cleared i) = (first is_empty s ≡ None) × (first (wants candidate wanted.Unused) s ≡ None) × (first (wants candidate wanted.Candidate) s ≡ Some i)
   ChosenBy Full = Unit {0}
 
   chosen_by : ChosenBy (choice candidate s)
   unfolding choice wants
   chosen_by = go (first is_empty s) (first (wants candidate wanted.Unused) s) (first (wants candidate wanted.Candidate) s) refl refl refl
     where
-      go : (a b c : Found) → first is_empty s ≡ a → first (wants candidate wanted.Unused) s ≡ b → first (wants candidate wanted.Candidate) s ≡ c
+      go : (a b c : Option ℕ) → first is_empty s ≡ a → first (wants candidate wanted.Unused) s ≡ b → first (wants candidate wanted.Candidate) s ≡ c
           → ChosenBy (found_or a Empty (found_or b Unused (found_or c Cleared Full)))
-      go (At i) b c e f g = e
-      go Nothing (At i) c e f g = (e, f)
-      go Nothing Nothing (At i) e f g = (e, f, g)
-      go Nothing Nothing Nothing e f g = tt
+      go (Some i) b c e f g = e
+      go None (Some i) c e f g = (e, f)
+      go None None (Some i) e f g = (e, f, g)
+      go None None None e f g = tt
 
   free-none : none_passes is_free (map place_in s) ≡ not (any_of is_empty s)
   free-none = none_seen place_in is_empty is_free free-slot s
@@ -189,7 +186,7 @@ module _ (s : List Slot) where
   unused-none = none_seen place_in (wants candidate wanted.Unused) is_unused unused-slot s
 
   -- whom it displaces
-  way_by : (c : Choice) → ChosenBy c → (x : Slot) → is_live x ≡ true → displaced_by s c ≡ Displaced x → displaced_from (map place_in s) ≡ some (entry_in x)
+  way_by : (c : Choice) → ChosenBy c → (x : Slot) → is_live x ≡ true → displaced_by s c ≡ Ok (Some x) → displaced_from (map place_in s) ≡ Some (entry_in x)
   unfolding displaced_from sought
   way_by (Empty i) h x l d = absurd (let z : ◌≡◌ {A = ℕ} 0 1 = cc in omega arith)
   way_by (Unused i) h x l d =
@@ -229,7 +226,7 @@ module _ (s : List Slot) where
   with_entry-by Full h y new e n = clash y refl
 
 -- an entry that made way is the one that the places pick
-pub displaced-way : (new : Slot) (s : List Slot) (x : Slot) → placed candidate new s ≡ Displaced x → displaced_from (map place_in s) ≡ some (entry_in x)
+pub displaced-way : (new : Slot) (s : List Slot) (x : Slot) → placed candidate new s ≡ Ok (Some x) → displaced_from (map place_in s) ≡ Some (entry_in x)
 unfolding placed
 displaced-way new s x d =
     let w : Displacement candidate new s x = rw d at (placed-says candidate new s) in

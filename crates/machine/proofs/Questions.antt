@@ -1,5 +1,6 @@
 -- The unit's tests and questions against the ledger's, the commands that touch no side, reset, and the entry of an insertion.
 -- Assumes nothing.
+use Rattle.std.proofs.Common.{Ok, Err, Result}
 use Prim.Native.Nat.{ℕ, suc, ◌+◌, ◌*◌, ◌-◌, ◌/◌, ◌%◌, ◌^◌, ◌≤◌, ◌<◌}
 use mathlib.Core.Path.{◌≡◌, refl, ap, sym, ◌∙◌}
 use mathlib.Core.Bool.{Bool, true, false, not, cond, ◌&&◌, ◌||◌, and_comm, and_assoc, and-true, and-false}
@@ -39,8 +40,6 @@ use Rattle.machine.specs.declared.Command.{Command}
 use Rattle.machine.specs.declared.Command.TheVariants as command
 use Rattle.machine.specs.declared.Refusal.{Refusal}
 use Rattle.machine.specs.declared.Refusal.TheVariants as refusal
-use Rattle.machine.specs.declared.Verdict.{Verdict}
-use Rattle.machine.specs.declared.Verdict.TheVariants.{Passed, Refused}
 use Rattle.machine.specs.declared.Answer.TheVariants as answer
 use Rattle.machine.proofs.Sides.{code_bytes_lem}
 use Rattle.machine.proofs.Sound.{owner-parts}
@@ -258,56 +257,56 @@ module _ {n : Counts} {u : State} {l : Ledger} (a : Alike n u l) (strand : ℕ) 
 
 -- ---- first refusals
 -- a verdict's number: 0 where the command passed
-abbrev pub verdict_number : Verdict → ℕ
-verdict_number Passed = 0
-verdict_number (Refused r) = refusal_number r
+abbrev pub verdict_number : Result (Unit {0}) Refusal → ℕ
+verdict_number (Ok _) = 0
+verdict_number (Err r) = refusal_number r
 
 -- the verdicts by their numbers
-numbered : List Verdict
+numbered : List (Result (Unit {0}) Refusal)
 numbered =
-    Passed ∷ Passed ∷ Passed ∷ Passed ∷ Passed
-    ∷ Refused refusal.Strand ∷ Refused refusal.Side ∷ Refused refusal.Selector ∷ Refused refusal.Operand ∷ Refused refusal.Register
-    ∷ Refused refusal.Value ∷ Refused refusal.Address ∷ Refused refusal.Word ∷ Refused refusal.NoSlot
-    ∷ Refused refusal.Table ∷ Refused refusal.NoLookup ∷ Refused refusal.Permission ∷ []
+    (Ok tt) ∷ (Ok tt) ∷ (Ok tt) ∷ (Ok tt) ∷ (Ok tt)
+    ∷ Err refusal.Strand ∷ Err refusal.Side ∷ Err refusal.Selector ∷ Err refusal.Operand ∷ Err refusal.Register
+    ∷ Err refusal.Value ∷ Err refusal.Address ∷ Err refusal.Word ∷ Err refusal.NoSlot
+    ∷ Err refusal.Table ∷ Err refusal.NoLookup ∷ Err refusal.Permission ∷ []
 
-verdict-back : (v : Verdict) → get_or numbered (verdict_number v) Passed ≡ v
+verdict-back : (v : Result (Unit {0}) Refusal) → get_or numbered (verdict_number v) (Ok tt) ≡ v
 unfolding numbered
-verdict-back Passed = refl
-verdict-back (Refused refusal.Strand) = refl
-verdict-back (Refused refusal.Side) = refl
-verdict-back (Refused refusal.Selector) = refl
-verdict-back (Refused refusal.Operand) = refl
-verdict-back (Refused refusal.Register) = refl
-verdict-back (Refused refusal.Value) = refl
-verdict-back (Refused refusal.Address) = refl
-verdict-back (Refused refusal.Word) = refl
-verdict-back (Refused refusal.NoSlot) = refl
-verdict-back (Refused refusal.Table) = refl
-verdict-back (Refused refusal.NoLookup) = refl
-verdict-back (Refused refusal.Permission) = refl
+verdict-back (Ok _) = refl
+verdict-back (Err refusal.Strand) = refl
+verdict-back (Err refusal.Side) = refl
+verdict-back (Err refusal.Selector) = refl
+verdict-back (Err refusal.Operand) = refl
+verdict-back (Err refusal.Register) = refl
+verdict-back (Err refusal.Value) = refl
+verdict-back (Err refusal.Address) = refl
+verdict-back (Err refusal.Word) = refl
+verdict-back (Err refusal.NoSlot) = refl
+verdict-back (Err refusal.Table) = refl
+verdict-back (Err refusal.NoLookup) = refl
+verdict-back (Err refusal.Permission) = refl
 
 -- verdicts are told apart by their numbers
-pub same_number : (v w : Verdict) → verdict_number v ≡ verdict_number w → v ≡ w
-same_number v w e = sym (verdict-back v) ∙ ap (λ k. get_or numbered k Passed) e ∙ verdict-back w
+pub same_number : (v w : Result (Unit {0}) Refusal) → verdict_number v ≡ verdict_number w → v ≡ w
+same_number v w e = sym (verdict-back v) ∙ ap (λ k. get_or numbered k (Ok tt)) e ∙ verdict-back w
 
-pub number_passed : (v : Verdict) → verdict_number v ≡ 0 → v ≡ Passed
-number_passed v e = same_number v Passed e
+pub number_passed : (v : Result (Unit {0}) Refusal) → verdict_number v ≡ 0 → v ≡ Ok tt
+number_passed v e = same_number v (Ok tt) e
 
-pub number-refused : (v : Verdict) (r : Refusal) → verdict_number v ≡ refusal_number r → v ≡ Refused r
-number-refused v r e = same_number v (Refused r) e
+pub number-refused : (v : Result (Unit {0}) Refusal) (r : Refusal) → verdict_number v ≡ refusal_number r → v ≡ Err r
+number-refused v r e = same_number v (Err r) e
 
-passed-refused : {C : Type 0} {r : Refusal} → Refused r ≡ Passed → C
+passed-refused : {C : Type 0} {r : Refusal} → ◌≡◌ {A = Result (Unit {0}) Refusal} (Err r) (Ok tt) → C
 passed-refused e = absurd (let z : ◌≡◌ {A = ℕ} 0 1 = cc in omega arith)
 
 -- a refusal's number is not 0, and is a byte
 pub refusal-positive : (r : Refusal) → refusal_number r ≡ 0 → ⊥
-refusal-positive r e = passed-refused (number_passed (Refused r) e)
+refusal-positive r e = passed-refused (number_passed (Err r) e)
 
 pub refusal-small : (r : Refusal) → refusal_number r < 256
 unfolding numbered
 refusal-small r = by-test (ltb (refusal_number r) (length numbered))
     (λ e. omega (arith, ltb-true (refusal_number r) (length numbered) e))
-    (λ e. passed-refused (sym (verdict-back (Refused r)) ∙ get_or-eq_default numbered Passed (ltb-false (refusal_number r) (length numbered) e)))
+    (λ e. passed-refused (sym (verdict-back (Err r)) ∙ get_or-eq_default numbered (Ok tt) (ltb-false (refusal_number r) (length numbered) e)))
 
 -- the unit's questions beside the ledger's: the same numbers and answers, as long as all before were answered well.
 -- The last of an insertion, number 13, the unit asks alone
@@ -411,7 +410,7 @@ module _ {n : Counts} {u : State} {l : Ledger} (a : Alike n u l) where
   }
 
   -- writes, reads and pointers that passed
-  pub write-alike : (hv : Bool) (strand number value : ℕ) → verdict hv u (command.Write strand number value) ≡ Passed
+  pub write-alike : (hv : Bool) (strand number value : ℕ) → verdict hv u (command.Write strand number value) ≡ Ok tt
       → Alike n (act u (command.Write strand number value)).state (writes l strand number value)
   unfolding act asked all_of
   write-alike hv strand number value v =
@@ -420,7 +419,7 @@ module _ {n : Counts} {u : State} {l : Ledger} (a : Alike n u l) where
       let w : writable number ≡ true = search conj in
       alike-registers strand number value s (omega (arith, writable-below number w)) (search conj)
 
-  pub read-bytes : (hv : Bool) (strand number : ℕ) → verdict hv u (command.Read strand number) ≡ Passed
+  pub read-bytes : (hv : Bool) (strand number : ℕ) → verdict hv u (command.Read strand number) ≡ Ok tt
       → answer_bytes (act u (command.Read strand number)).answer ≡ line 3 0 0 0 (l.registers strand number) 0
   unfolding act answer_bytes asked all_of
   read-bytes hv strand number v =
@@ -446,7 +445,7 @@ module _ {n : Counts} {u : State} {l : Ledger} (a : Alike n u l) where
       )
       (pointer_of_lem _ _ _ (configuration-listed u.registers strand (configuration_number side context) size a.allowed s (omega arith) (omega arith) z))
 
-  pub pointers-bytes : (hv : Bool) (strand side : ℕ) → verdict hv u (command.Pointers strand side) ≡ Passed
+  pub pointers-bytes : (hv : Bool) (strand side : ℕ) → verdict hv u (command.Pointers strand side) ≡ Ok tt
       → answer_bytes (act u (command.Pointers strand side)).answer ≡ (pointers l strand side).bytes
   unfolding act answer_bytes asked all_of pointers
   pointers-bytes hv strand side v =
@@ -463,7 +462,7 @@ module _ {n : Counts} {u : State} {l : Ledger} (a : Alike n u l) where
       )
       (line-answer 3 _ _ (omega arith) (omega arith) (omega arith))
 
-  pub rate-bytes : (hv : Bool) (strand side : ℕ) → verdict hv u (command.Rate strand side) ≡ Passed
+  pub rate-bytes : (hv : Bool) (strand side : ℕ) → verdict hv u (command.Rate strand side) ≡ Ok tt
       → answer_bytes (act u (command.Rate strand side)).answer ≡ line 3 0 0 0 (thousandths (recent l strand side)) 0
   unfolding act answer_bytes asked all_of
   rate-bytes hv strand side v =

@@ -1,8 +1,8 @@
 -- The ledger with its places, fed the bytes alone, does what it does when it is fed the unit's names: the unit's runs are told by it. Assumes nothing.
+use Rattle.std.proofs.Common.{Some}
 use Prim.Native.Nat.{ℕ, ◌*◌, ◌≤◌}
 use mathlib.Core.Path.{◌≡◌, refl, ap, ap₂, sym, subst, fun_ext, ◌∙◌}
 use mathlib.Core.Bool.{Bool, true, ◌&&◌}
-use mathlib.Core.Option.{some}
 use mathlib.Core.List.{List, [], ◌∷◌, ◌++◌}
 use native.Mathlib.Omega.{arith}
 use lib.Dec.{eqb}
@@ -39,13 +39,13 @@ ruleset conj = (and_left, and_right, eqb-true)
 
 -- ---- one command
 -- a name is that of one entry
-name-is : (d : Name) (e : Entry) → is_named d e ≡ true → d ≡ name_of (some e)
+name-is : (d : Name) (e : Entry) → is_named d e ≡ true → d ≡ name_of (Some e)
 unfolding is_named
 name-is d e h =
-    let a : d.partition ≡ (name_of (some e)).partition = search conj in
-    let b : d.real ≡ (name_of (some e)).real = search conj in
-    let c : d.place ≡ (name_of (some e)).place = search conj in
-    let f : d.word ≡ (name_of (some e)).word = search conj in
+    let a : d.partition ≡ (name_of (Some e)).partition = search conj in
+    let b : d.real ≡ (name_of (Some e)).real = search conj in
+    let c : d.place ≡ (name_of (Some e)).place = search conj in
+    let f : d.word ≡ (name_of (Some e)).word = search conj in
     λ i. record { partition = a i; real = b i; place = c i; word = f i }
 
 -- the ledger reads a name only where it displaces

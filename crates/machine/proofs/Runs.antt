@@ -1,5 +1,6 @@
 -- Laws of a run: what it takes of its bytes and why it ends, what it leaves, and the run turn by turn. They hold of any state.
 -- Assumes nothing.
+use Rattle.std.proofs.Common.{Ok, Err, Result}
 use Prim.Native.Nat.{ℕ, zero, suc, ◌+◌, ◌*◌, ◌-◌, ◌≤◌, ◌<◌}
 use mathlib.Core.Path.{◌≡◌, refl, ap, subst, ◌∙◌}
 use mathlib.Core.Bool.{Bool, true, false, cond}
@@ -14,12 +15,11 @@ use Rattle.laws.proofs.Bools.{by-test}
 use Rattle.laws.proofs.Stores.{sets-append, take-sets, drop-sets}
 use Rattle.machine.specs.State.{Counts, State, state_of, encode, words_sound}
 use Rattle.machine.specs.Step.{step}
-use Rattle.machine.specs.Stream.{Bytes, Taken, Outcome, byte, width_of, decode_at, answer_bytes, ended, more}
+use Rattle.machine.specs.Stream.{Bytes, Taken, Outcome, byte, width_of, decode_at, answer_bytes, ended, more, stop_number}
 use Rattle.machine.specs.Stream.{takes_one, takes, taken_of, after, answers_bytes, finish, run_of}
 use Rattle.machine.specs.declared.Command.{Command}
-use Rattle.machine.specs.declared.Decoded.{Decoded}
-use Rattle.machine.specs.declared.Decoded.TheVariants.{Known, Stop}
 use Rattle.machine.proofs.Bytes.{answer-length, answers-length}
+use Rattle.machine.specs.declared.Stop.{Stop}
 
 -- ---- what is decoded
 -- a command has two bytes at least: none of the widths is 1
@@ -35,9 +35,9 @@ two-or-none b =
     arm false width h o n = o n
 
 -- .. and lies within the input
-abbrev Inside : Bytes → ℕ → Decoded → Type 0
-Inside s at (Known c width) = (2 ≤ width) × (at + width ≤ length s)
-Inside s at (Stop k) = Unit {0}
+abbrev Inside : Bytes → ℕ → Result (Command × ℕ) Stop → Type 0
+Inside s at (Ok (c, width)) = (2 ≤ width) × (at + width ≤ length s)
+Inside s at (Err k) = Unit {0}
 
 inside : (s : Bytes) (at : ℕ) → Inside s at (decode_at s at)
 unfolding decode_at
@@ -50,23 +50,23 @@ inside s at =
     let h : w ≤ length s - at = ltb-false _ _ f in
     rw (e, f) (two, omega arith)))
 
-pub decode-width : (s : Bytes) (at : ℕ) {c : Command} {width : ℕ} → decode_at s at ≡ Known c width → (2 ≤ width) × (at + width ≤ length s)
+pub decode-width : (s : Bytes) (at : ℕ) {c : Command} {width : ℕ} → decode_at s at ≡ Ok (c, width) → (2 ≤ width) × (at + width ≤ length s)
 decode-width s at e = subst (Inside s at) e (inside s at)
 
 -- ---- what a run takes
 -- from a position, with room left: `takes` where its turns are enough
 pub data Takes (input : Bytes) : ℕ → ℕ → Taken → Type 0 where
   at-end : {at room : ℕ} → length input ≤ at → Takes input at room (ended 0)
-  at-stop : {at room k : ℕ} → at < length input → decode_at input at ≡ Stop k → Takes input at room (ended k)
-  no_room : {at room width : ℕ} {c : Command} → at < length input → decode_at input at ≡ Known c width → room < 24 → Takes input at room (ended 4)
-  one : {at room width : ℕ} {c : Command} {rest : Taken} → at < length input → decode_at input at ≡ Known c width → 24 ≤ room →
+  at-stop : {at room : ℕ} {k : Stop} → at < length input → decode_at input at ≡ Err k → Takes input at room (ended (stop_number k))
+  no_room : {at room width : ℕ} {c : Command} → at < length input → decode_at input at ≡ Ok (c, width) → room < 24 → Takes input at room (ended 4)
+  one : {at room width : ℕ} {c : Command} {rest : Taken} → at < length input → decode_at input at ≡ Ok (c, width) → 24 ≤ room →
       Takes input (at + width) (room - 24) rest → Takes input at room (more c width rest)
 
 module _ (input : Bytes) where
-  takes_one_lem : (d : Decoded) {at room : ℕ} (rest : ℕ → Taken) → at < length input → decode_at input at ≡ d →
+  takes_one_lem : (d : Result (Command × ℕ) Stop) {at room : ℕ} (rest : ℕ → Taken) → at < length input → decode_at input at ≡ d →
       ((width : ℕ) → 2 ≤ width → Takes input (at + width) (room - 24) (rest width)) → Takes input at room (takes_one d room rest)
-  takes_one_lem (Stop k) rest h e r = at-stop h e
-  takes_one_lem (Known c width) {at} {room} rest h e r = by-test (ltb room 24)
+  takes_one_lem (Err k) rest h e r = at-stop h e
+  takes_one_lem (Ok (c, width)) {at} {room} rest h e r = by-test (ltb room 24)
       (λ f. rw f (no_room h e (ltb-true room 24 f)))
       (λ f. rw f (one h e (ltb-false room 24 f) (r width (decode-width input at e).0)))
 
@@ -208,15 +208,15 @@ module _ (hv : Bool) (u : State) (input output : Bytes) (answered at : ℕ) wher
 
   module _ (h : at < length input) where
     -- numbers 2 and 3
-    pub resume-stop : {k : ℕ} → decode_at input at ≡ Stop k → Over k
-    resume-stop {k} e = resumes (at-stop h e) ∙ finish-ended hv u output answered at k
+    pub resume-stop : {k : Stop} → decode_at input at ≡ Err k → Over (stop_number k)
+    resume-stop {k} e = resumes (at-stop h e) ∙ finish-ended hv u output answered at (stop_number k)
 
     -- number 4
-    pub resume-full : {c : Command} {width : ℕ} → decode_at input at ≡ Known c width → length output - answered * 24 < 24 → Over 4
+    pub resume-full : {c : Command} {width : ℕ} → decode_at input at ≡ Ok (c, width) → length output - answered * 24 < 24 → Over 4
     resume-full e f = resumes (no_room h e f) ∙ finish-ended hv u output answered at 4
 
     -- a command answered
-    pub resume-turn : {c : Command} {width : ℕ} → decode_at input at ≡ Known c width → answered * 24 + 24 ≤ length output →
+    pub resume-turn : {c : Command} {width : ℕ} → decode_at input at ≡ Ok (c, width) → answered * 24 + 24 ≤ length output →
         resume hv u input output answered at
         ≡ resume hv (step hv u c).state input (sets output (answered * 24) (answer_bytes (step hv u c).answer)) (answered + 1) (at + width)
     unfolding resume

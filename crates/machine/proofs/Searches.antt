@@ -1,11 +1,11 @@
 -- What a search of a sound side finds and compares, told by the ledger's entries and their places. Assumes nothing.
+use Rattle.std.proofs.Common.{Some}
 use Prim.Native.Nat.{ℕ, zero, suc, ◌+◌}
 use mathlib.Core.Path.{◌≡◌, refl, ap, sym, ◌∙◌}
 use mathlib.Core.Bool.{Bool, true}
 use mathlib.Core.List.{List, [], ◌∷◌, map}
 use lib.ListN.{get_or, take, get_or-map}
 use Rattle.laws.specs.Tests.{count, count_up_to, first}
-use Rattle.laws.specs.declared.Found.TheVariants.{At}
 use Rattle.laws.proofs.Bools.{and_left}
 use Rattle.laws.proofs.Counts.{none-count}
 use Rattle.laws.proofs.Walks.{found_at, found_none}
@@ -48,7 +48,7 @@ module _ {n : ℕ} {s : List Slot} {m : List Entry} (h : SideAlike n s m) (parti
       upto-where slot_sound (answers_to key) (answers_to key) (λ x k. refl) (is_compared key) (hit asked)
       (same-hit (owner-test partition real context address)) s (and_left _ _ h.sound)
 
-  found-says : (i : ℕ) → first (answers_to key) s ≡ At i →
+  found-says : (i : ℕ) → first (answers_to key) s ≡ Some i →
       let x : Slot = get_or s i no_slot in
       (is_live x ≡ true) × (is_at partition real context address.0 (entry_in x) ≡ true)
   found-says i f =

@@ -1,10 +1,10 @@
 -- A side of the unit and the ledger's list of it: tests of a slot and of its entry agree, and a demap, a lookup and an insertion keep the two alike.
 -- Assumes nothing.
+use Rattle.std.proofs.Common.{Some, None, Ok}
 use Prim.Native.Nat.{ℕ, zero, suc, ◌+◌, ◌*◌, ◌-◌, ◌/◌, ◌%◌, ◌^◌, ◌≤◌, ◌<◌}
 use mathlib.Core.Path.{◌≡◌, refl, ap, sym, ◌∙◌}
 use mathlib.Core.Bool.{Bool, true, false, not, ◌&&◌, ◌||◌, beq, and_assoc, and-false, and-true}
 use mathlib.Core.List.{List, [], ◌∷◌, ◌++◌}
-use mathlib.Core.Option.{none, some}
 use native.Mathlib.Omega.{arith}
 use native.Mathlib.Nat.{mod-lt, mul_assoc}
 use lib.Dec.{eqb, leb, ltb}
@@ -13,7 +13,6 @@ use lib.ListN.{length, get_or, replicate, length-set, length-replicate, get_or-e
 use borrow.Author.Tests.{eqb-true, eqb-false, eq-eqb, lt-ltb, ltb-true, ltb-false, le-leb, leb-true, not-true}
 use Rattle.laws.specs.Tests.{tick, count, any_of, all_of, first}
 use Rattle.laws.specs.Passing.{none_passes, without, find}
-use Rattle.laws.specs.declared.Found.TheVariants.{At, Nothing}
 use Rattle.laws.proofs.Bools.{by-test, clash, both_ways, and_both, and_left, and_right}
 use Rattle.laws.proofs.Counts.{count-append, count-passing, count_none, count-all, count-rest, count_at, count-one, count-le, none-count}
 use Rattle.laws.proofs.Walks.{found_at, found_none}
@@ -33,7 +32,6 @@ use Rattle.machine.specs.declared.VirtualAddress.{VirtualAddress}
 use Rattle.machine.specs.declared.Slot.{Slot}
 use Rattle.machine.specs.declared.Key.TheVariants.{Virtual}
 use Rattle.machine.specs.declared.Removal.TheVariants.{Page, Context, Unlocked, Everything}
-use Rattle.machine.specs.declared.Placed.TheVariants.{Done, Displaced}
 use Rattle.machine.proofs.Pages.{shift-large}
 use Rattle.machine.proofs.Alike.{hit, SideAlike}
 use Rattle.machine.proofs.Insertion.{overlaps-live, length_removed, count-removed, count_set-used}
@@ -279,11 +277,11 @@ named-overlap d x y hx lx hy ly dx dy =
 -- ---- alike
 pub alike-empty : (n : ℕ) → SideAlike n (replicate n no_slot) []
 unfolding count
-alike-empty n = record { size = length-replicate n no_slot; sound = empty_sound_lem n; same = λ p. none p n }
+alike-empty n = record { size = length-replicate n no_slot; sound = empty_sound_lem n; same = λ p. None p n }
   where
-    none : (p : Entry → Bool) (k : ℕ) → count (hit p) (replicate k no_slot) ≡ 0
-    none p zero = refl
-    none p (suc k) = omega (arith, none p k)
+    None : (p : Entry → Bool) (k : ℕ) → count (hit p) (replicate k no_slot) ≡ 0
+    None p zero = refl
+    None p (suc k) = omega (arith, None p k)
 
 -- what the displacement of x is to the ledger, whatever name it is told that is x's
 pub record DisplacedSays (n : ℕ) (new : Slot) (s : List Slot) (m : List Entry) (x : Slot) : Type 0 where
@@ -293,7 +291,7 @@ pub record DisplacedSays (n : ℕ) (new : Slot) (s : List Slot) (m : List Entry)
   pub sound : slot_sound x ≡ true
   pub free : unlocked (entry_in x) ≡ true
   pub listed : Live (entry_in x) m
-  pub found : (d : Name) → is_named d (entry_in x) ≡ true → find (λ e. is_named d e && unlocked e) m ≡ some (entry_in x)
+  pub found : (d : Name) → is_named d (entry_in x) ≡ true → find (λ e. is_named d e && unlocked e) m ≡ Some (entry_in x)
   pub after : (d : Name) → is_named d (entry_in x) ≡ true → SideAlike n (inserted candidate new s) (without (is_named d) m ++ (entry_in new ∷ []))
 
 module _ {n : ℕ} {s : List Slot} {m : List Entry} (h : SideAlike n s m) where
@@ -345,11 +343,11 @@ module _ {n : ℕ} {s : List Slot} {m : List Entry} (h : SideAlike n s m) where
       (j.0, j.1, sym (entry-same e _ j.2))
 
   module _ {q : Slot → Bool} {p : Entry → Bool} (t : SameTest q p) where
-    pub alike-nothing : first q s ≡ Nothing → find p m ≡ none
+    pub alike-nothing : first q s ≡ None → find p m ≡ None
     alike-nothing f = find-zero p m (sym (alike-count t) ∙ none-count q s (found_none no_slot q s f))
 
-    pub alike-found : (i : ℕ) → count p m ≤ 1 → first q s ≡ At i
-        → (is_live (get_or s i no_slot) ≡ true) × (find p m ≡ some (entry_in (get_or s i no_slot)))
+    pub alike-found : (i : ℕ) → count p m ≤ 1 → first q s ≡ Some i
+        → (is_live (get_or s i no_slot) ≡ true) × (find p m ≡ Some (entry_in (get_or s i no_slot)))
     alike-found i one f =
         let a : q (get_or s i no_slot) ≡ true = (found_at no_slot q s i f).1 in
         let l : is_live (get_or s i no_slot) ≡ true = t.live _ a in
@@ -412,7 +410,7 @@ module _ {n : ℕ} {s : List Slot} {m : List Entry} (h : SideAlike n s m) where
         (count-inserted (hit r) (λ x e. rw (not-true (is_live x) e)) (λ x. blind r x (without_used x).flags (omega arith)) candidate new s)
 
     -- with a slot empty or made so
-    pub alike-done : placed candidate new s ≡ Done
+    pub alike-done : placed candidate new s ≡ Ok None
         → ((eqb (length m) n && none_passes (overlap (entry_in new)) m) ≡ false)
         × SideAlike n (inserted candidate new s) (without (overlap (entry_in new)) m ++ (entry_in new ∷ []))
     unfolding count
@@ -430,7 +428,7 @@ module _ {n : ℕ} {s : List Slot} {m : List Entry} (h : SideAlike n s m) where
         )
 
     -- with an entry displaced
-    pub alike-displaced : (x : Slot) → placed candidate new s ≡ Displaced x → DisplacedSays n new s m x
+    pub alike-displaced : (x : Slot) → placed candidate new s ≡ Ok (Some x) → DisplacedSays n new s m x
     unfolding count
     alike-displaced x d =
         let w : Displacement candidate new s x = rw d at (placed-says candidate new s) in
@@ -471,13 +469,13 @@ module _ {n : ℕ} {s : List Slot} (g : Ledger) (side : ℕ) (h : SideAlike n s 
   unfolding inserts
   inserts-refused e = rw (alike-lacks h new k l, e)
 
-  pub inserts-done : placed candidate new s ≡ Done
+  pub inserts-done : placed candidate new s ≡ Ok None
       → inserts n g side (entry_in new) d ≡ answers (with_entries g side (without (overlap (entry_in new)) (g.entries side) ++ (entry_in new ∷ [])))
       (line 0 0 0 0 0 0)
   unfolding inserts
   inserts-done e = rw (alike-lacks h new k l, slot-had candidate new s, e, (alike-done h new k l e).0)
 
-  pub inserts-displaced : (x : Slot) → placed candidate new s ≡ Displaced x → is_named d (entry_in x) ≡ true
+  pub inserts-displaced : (x : Slot) → placed candidate new s ≡ Ok (Some x) → is_named d (entry_in x) ≡ true
       → inserts n g side (entry_in new) d
       ≡ answers (with_entries g side (without (is_named d) (g.entries side) ++ (entry_in new ∷ [])))
       (line 4 0 (partition_of x) (tick (is_real x)) (x.page + context_of x) x.word)

@@ -1,5 +1,6 @@
 -- Laws of the state: the register file, the words that hold a state, and soundness, taken apart. Over any number of slots.
 -- Assumes nothing.
+use Rattle.std.proofs.Common.{Ok, Err}
 use Prim.Native.Nat.{ℕ, ◌+◌, ◌*◌, ◌%◌, ◌^◌, ◌≤◌, ◌<◌}
 use mathlib.Core.Path.{◌≡◌, refl, ap, sym, ◌∙◌}
 use mathlib.Core.Bool.{Bool, true, false, cond, ◌&&◌}
@@ -29,7 +30,6 @@ use Rattle.machine.specs.Step.{act, insert_step}
 use Rattle.machine.specs.declared.Slot.{Slot}
 use Rattle.machine.specs.declared.Command.{Command}
 use Rattle.machine.specs.declared.Command.TheVariants as command
-use Rattle.machine.specs.declared.Verdict.TheVariants.{Passed, Refused}
 use Rattle.machine.proofs.Words.{insertable-sound}
 use Rattle.machine.proofs.Slots.{words_back, slots-back, words-length}
 use Rattle.machine.proofs.Insertion.{no_slot_lem}
@@ -251,14 +251,14 @@ reset-sound n = and_both _ _ refl (and_both _ _ (side n.itlb) (and_both _ _ (sid
 abbrev pub is_fine : Question → Bool
 is_fine q = q.fine
 
-pub ask-fine : (qs : List Question) → ask qs ≡ Passed → all_of is_fine qs ≡ true
+pub ask-fine : (qs : List Question) → ask qs ≡ Ok tt → all_of is_fine qs ≡ true
 unfolding ask all_of
 ask-fine [] h = refl
 ask-fine (q ∷ qs) h = by-test q.fine
     (λ e. and_both _ _ e (ask-fine qs (rw e at h)))
-    (λ e. let r : Refused q.refusal ≡ Passed = rw e at h in absurd (let z : ◌≡◌ {A = ℕ} 0 1 = cc in omega arith))
+    (λ e. let r : Err q.refusal ≡ Ok tt = rw e at h in absurd (let z : ◌≡◌ {A = ℕ} 0 1 = cc in omega arith))
 
-pub passed-asked : (hv : Bool) (u : State) (c : Command) → verdict hv u c ≡ Passed → all_of is_fine (asked hv u c) ≡ true
+pub passed-asked : (hv : Bool) (u : State) (c : Command) → verdict hv u c ≡ Ok tt → all_of is_fine (asked hv u c) ≡ true
 unfolding verdict
 passed-asked hv u c h = ask-fine (asked hv u c) h
 
@@ -268,13 +268,13 @@ pub record Insertable (u : State) (strand side flags word : ℕ) : Type 0 where
   pub tte : word_insertable word ≡ true
   pub slot : has_slot candidate (insertion u strand side flags word) (side_of u side) ≡ true
 
-pub insertable : (u : State) (strand side flags word : ℕ) → ask (asked_insertion u strand side flags word) ≡ Passed → Insertable u strand side flags word
+pub insertable : (u : State) (strand side flags word : ℕ) → ask (asked_insertion u strand side flags word) ≡ Ok tt → Insertable u strand side flags word
 unfolding asked_insertion all_of
 insertable u strand side flags word h =
     let q = ask-fine (asked_insertion u strand side flags word) h in
     record { address = search conj; tte = search conj; slot = search conj }
 
-pub insert-insertable : (hv : Bool) (u : State) (strand side flags word : ℕ) → verdict hv u (command.Insert strand side flags word) ≡ Passed
+pub insert-insertable : (hv : Bool) (u : State) (strand side flags word : ℕ) → verdict hv u (command.Insert strand side flags word) ≡ Ok tt
     → (strand < 4) × (side < 2) × Insertable u strand side flags word
 unfolding asked asked_insertion all_of
 insert-insertable hv u strand side flags word h =

@@ -1,4 +1,5 @@
 -- What an access does to the slots, and that a new entry has its used bit. Assumes nothing.
+use Rattle.std.proofs.Common.{Ok, Err, Result}
 use Prim.Native.Nat.{ℕ}
 use mathlib.Core.Path.{◌≡◌, refl}
 use mathlib.Core.Bool.{Bool, true, false}
@@ -13,17 +14,16 @@ use Rattle.machine.specs.declared.Key.{Key}
 use Rattle.machine.specs.declared.Access.{Access}
 use Rattle.machine.specs.declared.Reach.{Reach}
 use Rattle.machine.specs.declared.Translation.{Translation}
-use Rattle.machine.specs.declared.Judged.{Judged}
-use Rattle.machine.specs.declared.Judged.TheVariants as judged
+use Rattle.machine.specs.declared.Trap.{Trap}
 
 -- two states with the same slots
 abbrev pub SameSlots : State → State → Type 0
 SameSlots u v = (u.itlb ≡ v.itlb) × (u.dtlb ≡ v.dtlb)
 
 -- no judgement touches the slots
-judged-slots : (u : State) (a : Access) (p : Translation) (j : Judged) → SameSlots (settle_judged u a p j).state u
-judged-slots u a p (judged.Faulted t) = (refl, refl)
-judged-slots u a p judged.Permitted = (refl, refl)
+judged-slots : (u : State) (a : Access) (p : Translation) (j : Result (Unit {0}) Trap) → SameSlots (settle_judged u a p j).state u
+judged-slots u a p (Err t) = (refl, refl)
+judged-slots u a p (Ok _) = (refl, refl)
 
 -- the found entry's used bit is set, whether it ends in a fault or not
 pub hit-slots : (u : State) (a : Access) (i : ℕ) (r : Reach) →

@@ -1,6 +1,6 @@
 -- Document 01, "Access": prepare (the mask, steps 1 to 4), lookup (5), judge (6 and 7), translate (8), settle (used bit and registers).
 -- Assumes nothing.
-use Rattle.std.specs.Prelude.{ℕ, ◌+◌, ◌*◌, ◌%◌, ◌^◌, not, cond, ◌&&◌, ◌||◌, List, eqb, ltb, get_or}
+use Rattle.std.specs.Prelude.{ℕ, ◌+◌, ◌*◌, ◌%◌, ◌^◌, not, cond, ◌&&◌, ◌||◌, List, eqb, ltb, get_or, Some, None, Ok, Err, Option, Result}
 use Rattle.machine.specs.Pages.{in_range, bypassed}
 use Rattle.machine.specs.Words.{bits, physical_by}
 use Rattle.machine.specs.Slots.{no_slot, Looked, hit, miss, lookup, set_used}
@@ -17,12 +17,8 @@ use Rattle.machine.specs.declared.Trap.TheVariants as trap
 use Rattle.machine.specs.declared.Reach.{Reach}
 use Rattle.machine.specs.declared.Translation.{Translation}
 use Rattle.machine.specs.declared.Access.{Access}
-use Rattle.machine.specs.declared.Tag.{Tag}
-use Rattle.machine.specs.declared.Tag.TheVariants as effect
 use Rattle.machine.specs.declared.Prepared.{Prepared}
 use Rattle.machine.specs.declared.Prepared.TheVariants as prepared
-use Rattle.machine.specs.declared.Judged.{Judged}
-use Rattle.machine.specs.declared.Judged.TheVariants as judged
 use Rattle.machine.specs.declared.Answer.{Answer}
 use Rattle.machine.specs.declared.Answer.TheVariants as answer
 
@@ -47,8 +43,8 @@ abbrev pub exception : ℕ → ℕ → Trap
 exception kind fault = cond (eqb kind 0) (trap.InstructionAccessException fault) (trap.DataAccessException fault)
 
 -- the context that a trap of steps 4 to 7 leaves in tag access ("Access", last paragraph): the one selected; 0 while translation is off
-abbrev pub trap_tag : List ℕ → Access → Tag
-trap_tag file a = effect.Written (cond (translates file a.strand a.side) (selected file a.strand a.selector) 0)
+abbrev pub trap_tag : List ℕ → Access → Option ℕ
+trap_tag file a = Some (cond (translates file a.strand a.side) (selected file a.strand a.selector) 0)
 
 -- step 3: the attributes of a bypass go by bit 39: cp alone (1) where it is 0, e alone (2) where it is 1. It has no page, which 15 says (U3)
 abbrev pub bypass_to : VirtualAddress → Translation
@@ -59,8 +55,8 @@ bypass_to a = record { address = bypassed a; attributes = cond (eqb (bits 39 1 a
 abbrev pub prepare_bypass : ℕ → VirtualAddress → Prepared
 prepare_bypass kind a =
     cond (eqb (bits 39 1 a.0) 0) (prepared.Bypass (bypass_to a))
-    (cond (eqb kind 4) (prepared.Stopped (trap.DataAccessException 0x02) (effect.Written 0))
-    (cond (eqb kind 3) (prepared.Stopped (trap.DataAccessException 0x04) (effect.Written 0))
+    (cond (eqb kind 4) (prepared.Stopped (trap.DataAccessException 0x02) (Some 0))
+    (cond (eqb kind 3) (prepared.Stopped (trap.DataAccessException 0x04) (Some 0))
     (prepared.Bypass (bypass_to a))))
 
 -- step 5: what is looked up. With translation off the key is real, and asks for no context
@@ -71,9 +67,9 @@ lookup_key file a =
 unfoldable pub prepare : List ℕ → Access → Prepared
 prepare file a =
     -- 1. an address that is not aligned
-    cond (not (eqb (a.used.0 % 2 ^ a.size) 0)) (prepared.Stopped trap.AddressNotAligned effect.Kept)
+    cond (not (eqb (a.used.0 % 2 ^ a.size) 0)) (prepared.Stopped trap.AddressNotAligned None)
     -- 2. a user asks for data of the nucleus
-    (cond (eqb (mode file a.strand) 0 && (not (eqb a.kind 0) && eqb a.selector 2)) (prepared.Stopped trap.PrivilegedAction effect.Kept)
+    (cond (eqb (mode file a.strand) 0 && (not (eqb a.kind 0) && eqb a.selector 2)) (prepared.Stopped trap.PrivilegedAction None)
     -- 3. mode 2 does not translate
     (cond (eqb (mode file a.strand) 2) (prepare_bypass a.kind a.used)
     -- 4. an address out of range has fault type 0x20
@@ -97,13 +93,13 @@ fault_type mode kind word =
     + cond (eqb kind 3 && eqb (bits 10 1 word) 0) 0x04 0
     + cond (eqb (bits 62 1 word) 1 && not (eqb kind 4)) 0x10 0
 
-unfoldable pub judge : List ℕ → Access → ℕ → Judged
+unfoldable pub judge : List ℕ → Access → ℕ → Result (Unit {0}) Trap
 judge file a word =
     let fault : ℕ = fault_type (mode file a.strand) a.kind word in
     -- 6. any fault type stops the access
-    cond (not (eqb fault 0)) (judged.Faulted (exception a.kind fault))
+    cond (not (eqb fault 0)) (Err (exception a.kind fault))
     -- 7. a store or an atomic needs w
-    (cond ((eqb a.kind 2 || eqb a.kind 3) && eqb (bits 6 1 word) 0) (judged.Faulted trap.DataProtection) judged.Permitted)
+    (cond ((eqb a.kind 2 || eqb a.kind 3) && eqb (bits 6 1 word) 0) (Err trap.DataProtection) (Ok tt))
 
 -- ---- translate
 -- byte a of a physical answer ("The stream"): cp counts 1, e 2, ie 4
@@ -139,12 +135,12 @@ trap_fault trap.InstructionMiss = 0
 trap_fault trap.DataMiss = 0
 trap_fault trap.DataProtection = 0
 
-abbrev pub with_tag : List ℕ → ℕ → ℕ → ℕ → Tag → List ℕ
-with_tag file strand side address effect.Kept = file
-with_tag file strand side address (effect.Written context) = with_register file strand (tag_number side) (tag_of address context)
+abbrev pub with_tag : List ℕ → ℕ → ℕ → ℕ → Option ℕ → List ℕ
+with_tag file strand side address None = file
+with_tag file strand side address (Some context) = with_register file strand (tag_number side) (tag_of address context)
 
 -- "Access", last paragraph: a trap sets fault address (22) and fault (24) of its side, and tag access where it is not kept
-unfoldable pub trap_registers : List ℕ → Access → Trap → Tag → List ℕ
+unfoldable pub trap_registers : List ℕ → Access → Trap → Option ℕ → List ℕ
 trap_registers file a t tag =
     with_tag
     (with_register
@@ -160,15 +156,15 @@ abbrev pub stepped : State → Answer → Stepped
 stepped u a = record { state = u; answer = a }
 
 -- a trap's answer names the tag access after it
-abbrev pub trap_to : State → Access → Trap → Tag → Stepped
+abbrev pub trap_to : State → Access → Trap → Option ℕ → Stepped
 trap_to u a t tag =
     let file : List ℕ = trap_registers u.registers a t tag in
     stepped (with_registers u file)
     (answer.Trap (record { trap = t; address = a.used; tag = register file a.strand (tag_number a.side) }))
 
-abbrev pub settle_judged : State → Access → Translation → Judged → Stepped
-settle_judged u a p (judged.Faulted t) = trap_to u a t (trap_tag u.registers a)
-settle_judged u a p judged.Permitted = stepped u (answer.Physical p)
+abbrev pub settle_judged : State → Access → Translation → Result (Unit {0}) Trap → Stepped
+settle_judged u a p (Err t) = trap_to u a t (trap_tag u.registers a)
+settle_judged u a p (Ok _) = stepped u (answer.Physical p)
 
 -- step 6: a hit has its used bit set (document 01: it is marked), whatever its word then says; a miss sets none
 abbrev pub settle_looked : State → Access → Looked → Stepped

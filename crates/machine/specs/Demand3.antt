@@ -1,7 +1,6 @@
 -- Demand 3: what is claimed of every list of runs and served misses from reset.
 -- Assumes nothing.
-use Rattle.std.specs.Prelude.{ℕ, ◌*◌, ◌-◌, ◌≤◌, ◌<◌, ◌≡◌, Bool, true, List, [], ◌∷◌, ◌++◌, ◌↔◌, length, get_or, take, drop}
-use Rattle.std.proofs.Math.Option.{some}
+use Rattle.std.specs.Prelude.{ℕ, ◌*◌, ◌-◌, ◌≤◌, ◌<◌, ◌≡◌, Bool, true, List, [], ◌∷◌, ◌++◌, ◌↔◌, length, get_or, take, drop, Some}
 use Rattle.laws.specs.Passing.{how_many}
 use Rattle.machine.specs.State.{Counts, slot_count, State, state_of, encode, reset, words_sound}
 use Rattle.machine.specs.Step.{step}
@@ -48,7 +47,7 @@ pub record InsertionSays (n : ℕ) (s : List Place) (m : List Entry) (e : Entry)
   pub displaced : (get_or b 0 0 ≡ 4) ↔ ((length m ≡ n) × (how_many (overlap e) m ≡ 0) × (1 ≤ how_many unlocked m))
   -- the one named was live and unlocked, and is the one that the places pick
   pub named : get_or b 0 0 ≡ 4 →
-      (x : Entry) × (displaced_from s ≡ some x) × (is_named (name_in b) x ≡ true) × Live x m × (unlocked x ≡ true)
+      (x : Entry) × (displaced_from s ≡ Some x) × (is_named (name_in b) x ≡ true) × Live x m × (unlocked x ≡ true)
   -- 13 is answered exactly when the side was full, all locked, and none overlapped
   pub refused : (b ≡ line 5 13 0 0 0 0) ↔ ((length m ≡ n) × (how_many unlocked m ≡ 0) × (how_many (overlap e) m ≡ 0))
 

@@ -1,6 +1,6 @@
 -- Document 01, "Examples": the starred ones, on definitions and fields, and the printed run.
 -- Assumes nothing.
-use Rattle.std.specs.Prelude.{ℕ, ◌≡◌, Bool, true, false, [], ◌∷◌, ltb, replicate}
+use Rattle.std.specs.Prelude.{ℕ, ◌≡◌, Bool, true, false, [], ◌∷◌, ltb, replicate, Ok, Err}
 use Rattle.machine.specs.Pages.{in_range}
 use Rattle.machine.specs.Words.{bits, physical_at}
 use Rattle.machine.specs.Registers.{mode, reset_registers}
@@ -9,12 +9,10 @@ use Rattle.machine.specs.Questions.{refusal_number, verdict}
 use Rattle.machine.specs.Access.{prepare, judge, trap_number, trap_fault}
 use Rattle.machine.specs.declared.Access.{Access}
 use Rattle.machine.specs.declared.Prepared.TheVariants as prepared
-use Rattle.machine.specs.declared.Judged.TheVariants as judged
 use Rattle.machine.specs.Tsb.{tsb_pointer}
 use Rattle.machine.specs.Stream.{Bytes, Outcome, run_of}
 use Rattle.machine.specs.declared.Command.TheVariants as command
 use Rattle.machine.specs.declared.Refusal.{Refusal}
-use Rattle.machine.specs.declared.Verdict.TheVariants.{Passed, Refused}
 use Rattle.machine.specs.declared.Trap.{Trap}
 use Rattle.machine.specs.declared.Translation.{Translation}
 
@@ -30,13 +28,13 @@ pub record Starred : Type 0 where
   pub range : (in_range 0x0000_7FFF_FFFF_FFFF ≡ true) × (in_range 0x0000_8000_0000_0000 ≡ false)
       × (in_range 0xFFFF_7FFF_FFFF_FFFF ≡ false) × (in_range 0xFFFF_8000_0000_0000 ≡ true)
   -- second: the largest context is accepted of a strand that may write it (document 02, U6), one more gets number 10 in every mode
-  pub accepted : (hv : Bool) (u : State) → ltb 0 (mode u.registers 0) ≡ true → verdict hv u (command.Write 0 1 8191) ≡ Passed
-  pub refused : (hv : Bool) (u : State) → (r : Refusal) × (verdict hv u (command.Write 0 1 8192) ≡ Refused r) × (refusal_number r ≡ 10)
+  pub accepted : (hv : Bool) (u : State) → ltb 0 (mode u.registers 0) ≡ true → verdict hv u (command.Write 0 1 8191) ≡ Ok tt
+  pub refused : (hv : Bool) (u : State) → (r : Refusal) × (verdict hv u (command.Write 0 1 8192) ≡ Err r) × (refusal_number r ≡ 10)
   -- third: a 4 MB page whose word's address is not at a page start
   pub large : (physical_at 0x8000_0000_1240_2003 (record { 0 = 0x8040_1234 })).0 ≡ 0x1240_1234
   -- fourth: p stops a user's store before w does; bit 8 is p, bit 6 is w, and registers that are all zero are a user's
   pub privileged : (mode [] 0 ≡ 0) × (bits 8 1 0x8000_0000_0000_0100 ≡ 1) × (bits 6 1 0x8000_0000_0000_0100 ≡ 0)
-      × ((t : Trap) × (judge [] (store 0) 0x8000_0000_0000_0100 ≡ judged.Faulted t) × (trap_number t ≡ 0x30) × (trap_fault t ≡ 0x01))
+      × ((t : Trap) × (judge [] (store 0) 0x8000_0000_0000_0100 ≡ Err t) × (trap_number t ≡ 0x30) × (trap_fault t ≡ 0x01))
   -- fifth: a bypass with bit 39 set keeps the address and answers e
   pub bypassed : (t : Translation) × (prepare reset_registers (load 0x80_0000_0010) ≡ prepared.Bypass t) × (t.address.0 ≡ 0x80_0000_0010) × (t.attributes ≡ 2)
   -- sixth: the pointer of one page by a base with N 0, then by the same base with N 1

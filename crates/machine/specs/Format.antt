@@ -1,10 +1,10 @@
 -- Document 01, "The stream": the wire format of commands as its own text, what a run reads by it, and what it means that the decoder does. Assumes nothing.
-use Rattle.std.specs.Prelude.{ℕ, ◌-◌, ◌^◌, ◌≤◌, ◌<◌, ◌≡◌, Bool, true, ◌||◌, List, [], ◌∷◌, ◌++◌, ltb, length, get_or}
+use Rattle.std.specs.Prelude.{ℕ, ◌-◌, ◌^◌, ◌≤◌, ◌<◌, ◌≡◌, Bool, true, ◌||◌, List, [], ◌∷◌, ◌++◌, ltb, length, get_or, Ok, Err}
 use Rattle.machine.specs.Stream.{decode_at}
 use Rattle.machine.specs.Ledger.{big_endian}
 use Rattle.machine.specs.declared.Command.{Command}
 use Rattle.machine.specs.declared.Command.TheVariants as command
-use Rattle.machine.specs.declared.Decoded.TheVariants.{Known, Stop}
+use Rattle.machine.specs.declared.Stop.TheVariants.{NoCommand, Truncated}
 
 -- a command's own byte, then its operands in order; one that "The stream" marks 8 takes eight bytes, highest first
 unfoldable pub encoded : Command → List ℕ
@@ -65,8 +65,8 @@ Readable = (s : List ℕ) → ((i : ℕ) → get_or s i 0 < 256) → (room : ℕ
 -- ---- the decoder reads the format, at any place of a stream
 pub record Decodes : Type 0 where
   -- a command written there is the command read, of its width
-  pub known : (p r : List ℕ) (c : Command) → fits c ≡ true → decode_at (p ++ (encoded c ++ r)) (length p) ≡ Known c (length (encoded c))
+  pub known : (p r : List ℕ) (c : Command) → fits c ≡ true → decode_at (p ++ (encoded c ++ r)) (length p) ≡ Ok (c, length (encoded c))
   -- number 2: the byte is no command's
-  pub unknown : (s : List ℕ) (at : ℕ) → (ltb (get_or s at 0) 1 || ltb 10 (get_or s at 0)) ≡ true → decode_at s at ≡ Stop 2
+  pub unknown : (s : List ℕ) (at : ℕ) → (ltb (get_or s at 0) 1 || ltb 10 (get_or s at 0)) ≡ true → decode_at s at ≡ Err NoCommand
   -- number 3: a command cut off after its first byte
-  pub short : (p q r : List ℕ) (c : Command) → encoded c ≡ q ++ r → 1 ≤ length q → 1 ≤ length r → decode_at (p ++ q) (length p) ≡ Stop 3
+  pub short : (p q r : List ℕ) (c : Command) → encoded c ≡ q ++ r → 1 ≤ length q → 1 ≤ length r → decode_at (p ++ q) (length p) ≡ Err Truncated

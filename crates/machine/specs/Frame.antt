@@ -1,6 +1,6 @@
 -- What can take a live entry from a side of the unit, command by command.
 -- Assumes nothing.
-use Rattle.std.specs.Prelude.{ℕ, ◌<◌, ◌≡◌, Bool, true, false, List, ◌⊎◌, eqb, get_or}
+use Rattle.std.specs.Prelude.{ℕ, ◌<◌, ◌≡◌, Bool, true, false, List, ◌⊎◌, eqb, get_or, Ok}
 use Rattle.laws.specs.Tests.{any_of}
 use Rattle.machine.specs.Slots.{no_slot, is_live, partition_of, is_real, context_of, is_locked}
 use Rattle.machine.specs.Insertion.{is_empty}
@@ -15,7 +15,6 @@ use Rattle.machine.specs.declared.VirtualAddress.{VirtualAddress}
 use Rattle.machine.specs.declared.Slot.{Slot}
 use Rattle.machine.specs.declared.Command.{Command}
 use Rattle.machine.specs.declared.Command.TheVariants as command
-use Rattle.machine.specs.declared.Verdict.TheVariants.{Passed}
 
 -- the entry that stands in a slot
 abbrev pub entry_in : Slot → Entry
@@ -57,7 +56,7 @@ pub data Removes (u : State) (side : ℕ) (e : Entry) : Command → Type 0 where
 -- a live entry stays, with the same word, or a command that was accepted is one of those, or the miss was served by an insertion that is
 pub record Framed : Type 0 where
   pub by_command : (hv : Bool) (n : Counts) (u : State) (c : Command) (side : ℕ) (e : Entry) → sound n u ≡ true → side < 2 → Lives u side e
-      → Lives (step hv u c).state side e ⊎ ((verdict hv u c ≡ Passed) × Removes u side e c)
+      → Lives (step hv u c).state side e ⊎ ((verdict hv u c ≡ Ok tt) × Removes u side e c)
   pub by_miss : (n : Counts) (u : State) (strand at : ℕ) (of_zero of_other : Bytes) (side : ℕ) (e : Entry) → sound n u ≡ true → side < 2 → Lives u side e
       → Lives (serve u strand at of_zero of_other).state side e
       ⊎ ((word : ℕ) × (serve u strand at of_zero of_other ≡ act u (command.Insert strand at 0 word)) × Removes u side e (command.Insert strand at 0 word))

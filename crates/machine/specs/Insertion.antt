@@ -1,9 +1,7 @@
 -- Document 01, "Insertion and removal", on the slots of one side.
 -- Assumes nothing.
-use Rattle.std.specs.Prelude.{ℕ, ◌+◌, ◌%◌, ◌^◌, List, map, Bool, false, not, cond, ◌&&◌, ◌||◌, eqb, get_or, set}
+use Rattle.std.specs.Prelude.{ℕ, ◌+◌, ◌%◌, ◌^◌, List, map, Bool, false, not, cond, ◌&&◌, ◌||◌, eqb, get_or, set, Some, None, Ok, Err, Option, Result}
 use Rattle.laws.specs.Tests.{tick, any_of, first}
-use Rattle.laws.specs.declared.Found.{Found}
-use Rattle.laws.specs.declared.Found.TheVariants.{At, Nothing}
 use Rattle.machine.specs.Pages.{page_start}
 use Rattle.machine.specs.Slots.{no_slot, is_live, partition_of, is_locked, is_used, owner_word, key_owner, key_address, holds, answers_to, clear_used}
 use Rattle.machine.specs.declared.Slot.{Slot}
@@ -14,8 +12,7 @@ use Rattle.machine.specs.declared.Wanted.{Wanted}
 use Rattle.machine.specs.declared.Wanted.TheVariants as wanted
 use Rattle.machine.specs.declared.Choice.{Choice}
 use Rattle.machine.specs.declared.Choice.TheVariants.{Empty, Unused, Cleared, Full}
-use Rattle.machine.specs.declared.Placed.{Placed}
-use Rattle.machine.specs.declared.Placed.TheVariants.{Done, Displaced, Refused}
+use Rattle.machine.specs.declared.NoSlot.{NoSlot}
 
 -- overlap: two live entries with the same partition, real bit and context, the start of one in the page of the other
 unfoldable pub overlaps : Slot → Slot → Bool
@@ -58,9 +55,9 @@ is_empty x = not (is_live x)
 abbrev pub candidate : Slot → Bool
 candidate x = is_live x && not (is_locked x)
 
-abbrev pub found_or : Found → (ℕ → Choice) → Choice → Choice
-found_or (At i) chosen other = chosen i
-found_or Nothing chosen other = other
+abbrev pub found_or : Option ℕ → (ℕ → Choice) → Choice → Choice
+found_or (Some i) chosen other = chosen i
+found_or None chosen other = other
 
 -- what a choice of a slot looks for: an empty one, an unused candidate, a candidate
 unfoldable pub wants : (Slot → Bool) → Wanted → Slot → Bool
@@ -85,17 +82,17 @@ stored new s (Cleared i) = set (clear_used s) i new
 stored new s Full = s
 
 -- the entry that made way
-abbrev pub displaced_by : List Slot → Choice → Placed
-displaced_by s (Empty i) = Done
-displaced_by s (Unused i) = Displaced (get_or s i no_slot)
-displaced_by s (Cleared i) = Displaced (get_or s i no_slot)
-displaced_by s Full = Refused
+abbrev pub displaced_by : List Slot → Choice → Result (Option Slot) NoSlot
+displaced_by s (Empty i) = Ok None
+displaced_by s (Unused i) = Ok (Some (get_or s i no_slot))
+displaced_by s (Cleared i) = Ok (Some (get_or s i no_slot))
+displaced_by s Full = Err (record {})
 
 -- the slots after an insertion, and what it comes to
 unfoldable pub inserted : (Slot → Bool) → Slot → List Slot → List Slot
 inserted cand new s = let kept = removed (overlaps new) s in stored new kept (choice cand kept)
 
-unfoldable pub placed : (Slot → Bool) → Slot → List Slot → Placed
+unfoldable pub placed : (Slot → Bool) → Slot → List Slot → Result (Option Slot) NoSlot
 placed cand new s = let kept = removed (overlaps new) s in displaced_by kept (choice cand kept)
 
 -- number 13: a slot is to be had where one is empty, an entry may be displaced, or one overlaps and makes way

@@ -1,9 +1,8 @@
 -- Document 01, "The ledger": the plain machine of demand 3, a text of its own, with the misses that it serves (document 02, U1). With the unit it
 -- shares the type of a decoded command and the kit's library (lists, booleans, comparisons); its own list functions are in laws/specs/Passing.
 -- Assumes nothing.
-use Rattle.std.specs.Prelude.{ℕ, zero, suc, ◌+◌, ◌*◌, ◌-◌, ◌/◌, ◌%◌, ◌^◌, Bool, true, false, not, cond, ◌&&◌, ◌||◌, List, [], ◌∷◌, ◌++◌, eqb, leb, ltb, length, get_or, take, drop}
+use Rattle.std.specs.Prelude.{ℕ, zero, suc, ◌+◌, ◌*◌, ◌-◌, ◌/◌, ◌%◌, ◌^◌, Bool, true, false, not, cond, ◌&&◌, ◌||◌, List, [], ◌∷◌, ◌++◌, eqb, leb, ltb, length, get_or, take, drop, Some, None, Option}
 use Rattle.std.specs.Bool.{beq}
-use Rattle.std.proofs.Math.Option.{Option, none, some}
 use Rattle.laws.specs.Passing.{how_many, none_passes, without, find}
 use Rattle.machine.specs.declared.Command.{Command}
 use Rattle.machine.specs.declared.Command.TheVariants as command
@@ -221,8 +220,8 @@ lacks_slot n e m = eqb (length m) n && (none_passes unlocked m && none_passes (o
 -- ---- insertion, demaps and invalidation
 -- the entry named goes, if it is live and unlocked; with no such entry there is no answer
 abbrev pub displaces : Ledger → ℕ → Entry → Name → Option Entry → Written
-displaces l side e d none = answers l []
-displaces l side e d (some x) =
+displaces l side e d None = answers l []
+displaces l side e d (Some x) =
     answers (with_entries l side (without (is_named d) (l.entries side) ++ (e ∷ [])))
     (line 4 0 x.partition (one_if x.real) (x.page + x.context) x.word)
 
@@ -350,8 +349,8 @@ abbrev pub puts : Asked → Bool → Written → Written
 puts a missed w = answers (with_lookup w.ledger a.strand (asked_side a) missed) w.bytes
 
 abbrev pub looked_up : Ledger → Asked → Option Entry → Written
-looked_up l a none = puts a true (misses l a)
-looked_up l a (some e) = puts a false (hits l a e)
+looked_up l a None = puts a true (misses l a)
+looked_up l a (Some e) = puts a false (hits l a e)
 
 -- an access: steps 1 to 4 in order; if none ends it, steps 5 to 8 on the list of its side
 unfoldable pub accesses : Ledger → Asked → Written

@@ -1,6 +1,6 @@
 -- Document 02, U5: what changes a miss record.
 -- Assumes nothing.
-use Rattle.std.specs.Prelude.{ℕ, ◌<◌, ◌≡◌, Bool, true, ◌⊎◌, get_or}
+use Rattle.std.specs.Prelude.{ℕ, ◌<◌, ◌≡◌, Bool, true, ◌⊎◌, get_or, Ok}
 use Rattle.machine.specs.Record.{record_of, older_of}
 use Rattle.machine.specs.State.{Counts, State, sound}
 use Rattle.machine.specs.Questions.{kind_side, verdict}
@@ -12,7 +12,6 @@ use Rattle.machine.specs.declared.VirtualAddress.{VirtualAddress}
 use Rattle.machine.specs.declared.Prepared.TheVariants.{Lookup}
 use Rattle.machine.specs.declared.Command.{Command}
 use Rattle.machine.specs.declared.Command.TheVariants as command
-use Rattle.machine.specs.declared.Verdict.TheVariants.{Passed}
 
 -- two states with the same record of a strand and side
 pub record SameRecord (strand side : ℕ) (u v : State) : Type 0 where
@@ -22,7 +21,7 @@ pub record SameRecord (strand side : ℕ) (u v : State) : Type 0 where
 
 -- the command is an access by the strand on the side that is not refused, and that no step before the lookup ends
 pub data LooksUp (hv : Bool) (u : State) (strand side : ℕ) : Command → Type 0 where
-  looks_up : {kind selector size : ℕ} {address : VirtualAddress} → verdict hv u (command.Access strand kind selector size address) ≡ Passed
+  looks_up : {kind selector size : ℕ} {address : VirtualAddress} → verdict hv u (command.Access strand kind selector size address) ≡ Ok tt
       → kind_side kind ≡ side
       → prepare u.registers (access_of u.registers strand kind selector size address) ≡ Lookup
       → LooksUp hv u strand side (command.Access strand kind selector size address)

@@ -1,8 +1,7 @@
 -- Document 01's slots and marks (used bits) as their own text, beside the ledger: what each command does to the places of a side, whom an insertion displaces,
 -- and the words in which a caller sees it all. It goes by the ledger's registers, lists and tests, and by nothing of the unit.
 -- Assumes nothing.
-use Rattle.std.specs.Prelude.{ℕ, zero, suc, ◌+◌, ◌*◌, ◌-◌, ◌/◌, ◌%◌, ◌^◌, Bool, true, false, not, cond, ◌&&◌, ◌||◌, List, [], ◌∷◌, ◌++◌, map, eqb, leb, length, take, drop, replicate}
-use Rattle.std.proofs.Math.Option.{Option, none, some}
+use Rattle.std.specs.Prelude.{ℕ, zero, suc, ◌+◌, ◌*◌, ◌-◌, ◌/◌, ◌%◌, ◌^◌, Bool, true, false, not, cond, ◌&&◌, ◌||◌, List, [], ◌∷◌, ◌++◌, map, eqb, leb, length, take, drop, replicate, Some, None, Option}
 use Rattle.laws.specs.Passing.{none_passes, find}
 use Rattle.machine.specs.Ledger.{Entry, Ledger, start, unlocked, overlap, context_picked, one_if, Name, new_entry}
 use Rattle.machine.specs.Ledger.{first_no, questions, lacks_slot, is_at, in_context, in_partition, Asked, used_address}
@@ -67,9 +66,9 @@ unfoldable pub with_entry : Entry → List Place → List Place
 with_entry e s = at_lowest (sought s) (filled e true) (cond (none_passes is_free s && none_passes is_unused s) (map unused s) s)
 
 abbrev pub entry_at : Option Place → Option Entry
-entry_at none = none
-entry_at (some empty) = none
-entry_at (some (filled e used)) = some e
+entry_at None = None
+entry_at (Some empty) = None
+entry_at (Some (filled e used)) = Some e
 
 -- the entry that makes way: the one in that place
 unfoldable pub displaced_from : List Place → Option Entry

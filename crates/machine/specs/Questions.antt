@@ -1,6 +1,6 @@
 -- Document 01, "Questions before a command acts": 5 to 13, as an ordered list for each command; with 15 and 16 of document 02, U5 and U6.
 -- Assumes nothing.
-use Rattle.std.specs.Prelude.{ℕ, ◌%◌, ◌/◌, Bool, true, false, not, cond, ◌&&◌, ◌||◌, List, [], ◌∷◌, eqb, ltb, get_or}
+use Rattle.std.specs.Prelude.{ℕ, ◌%◌, ◌/◌, Bool, true, false, not, cond, ◌&&◌, ◌||◌, List, [], ◌∷◌, eqb, ltb, get_or, Ok, Err, Result}
 use Rattle.machine.specs.Pages.{in_range, untranslated}
 use Rattle.machine.specs.Words.{word_insertable}
 use Rattle.machine.specs.Registers.{partition, mode, tag_access, tag_address, tag_context, known, writable, allowed}
@@ -16,8 +16,6 @@ use Rattle.machine.specs.declared.Command.{Command}
 use Rattle.machine.specs.declared.Command.TheVariants as command
 use Rattle.machine.specs.declared.Refusal.{Refusal}
 use Rattle.machine.specs.declared.Refusal.TheVariants as refusal
-use Rattle.machine.specs.declared.Verdict.{Verdict}
-use Rattle.machine.specs.declared.Verdict.TheVariants.{Passed, Refused}
 
 -- the document's number of a refusal
 abbrev pub refusal_number : Refusal → ℕ
@@ -143,9 +141,9 @@ asked hv u (command.Rate strand side) =
     ∷ []
 
 -- the first "no" refuses
-unfoldable pub ask : List Question → Verdict
-ask [] = Passed
-ask (q ∷ qs) = cond q.fine (ask qs) (Refused q.refusal)
+unfoldable pub ask : List Question → Result (Unit {0}) Refusal
+ask [] = Ok tt
+ask (q ∷ qs) = cond q.fine (ask qs) (Err q.refusal)
 
-unfoldable pub verdict : Bool → State → Command → Verdict
+unfoldable pub verdict : Bool → State → Command → Result (Unit {0}) Refusal
 verdict hv u c = ask (asked hv u c)

@@ -1,8 +1,7 @@
 -- The ledger with its places by itself: fed the bytes of a run or the tables of a miss, and nothing of the unit, it tells every byte of the answers, every
 -- word of the state and the numbers returned. What each call is held to.
 -- Assumes nothing.
-use Rattle.std.specs.Prelude.{ℕ, ◌+◌, ◌*◌, ◌-◌, ◌≤◌, ◌≡◌, Bool, List, [], ◌∷◌, ◌++◌, length, drop}
-use Rattle.std.proofs.Math.Option.{Option, none, some}
+use Rattle.std.specs.Prelude.{ℕ, ◌+◌, ◌*◌, ◌-◌, ◌≤◌, ◌≡◌, Bool, List, [], ◌∷◌, ◌++◌, length, drop, Some, None, Option}
 use Rattle.machine.specs.State.{Counts, reset_of, reset_number}
 use Rattle.machine.specs.Stream.{Bytes, answer_bytes, Outcome, run_of}
 use Rattle.machine.specs.Serve.{part_of, Served, served_of}
@@ -19,14 +18,14 @@ use Rattle.machine.specs.declared.Part.{Part}
 -- ---- commands. n is the slot count of each side, hv the stream's mark
 -- the name of an entry; where none is displaced, no name is read
 abbrev pub name_of : Option Entry → Name
-name_of none = record { partition = 0; real = 0; place = 0; word = 0 }
-name_of (some e) = record { partition = e.partition; real = one_if e.real; place = e.page + e.context; word = e.word }
+name_of None = record { partition = 0; real = 0; place = 0; word = 0 }
+name_of (Some e) = record { partition = e.partition; real = one_if e.real; place = e.page + e.context; word = e.word }
 
 -- whom a command displaces: an insertion, the one that the places pick
 abbrev pub displaced_by : Reference → View → Option Entry
 displaced_by k (insertion strand side flags word) = displaced_from (k.places side)
-displaced_by k (access strand kind selector size address) = none
-displaced_by k other = none
+displaced_by k (access strand kind selector size address) = None
+displaced_by k other = None
 
 abbrev pub displaced_name : Reference → Command → Name
 displaced_name k c = name_of (displaced_by k (view c))

@@ -1,7 +1,6 @@
 -- Short runs and what they answer, byte by byte, on the definitions: what unit and second texts could say alike and wrong. Each request of document 02 has one.
 -- Assumes nothing.
-use Rattle.std.specs.Prelude.{ℕ, ◌+◌, ◌*◌, ◌^◌, ◌≡◌, Bool, true, false, List, [], ◌∷◌, ◌++◌, length, replicate}
-use Rattle.laws.specs.declared.Found.TheVariants.{At, Nothing}
+use Rattle.std.specs.Prelude.{ℕ, ◌+◌, ◌*◌, ◌^◌, ◌≡◌, Bool, true, false, List, [], ◌∷◌, ◌++◌, length, replicate, Some, None}
 use Rattle.machine.specs.Slots.{no_slot, searched}
 use Rattle.machine.specs.State.{Counts, counts, encode, reset}
 use Rattle.machine.specs.Stream.{Bytes, answer_bytes, Outcome, run_of}
@@ -264,7 +263,7 @@ pub record Runs : Type 0 where
   pub hit : RunAnswers two_slots false (served_of two_slots missed 2 1 [] table).words ((13, 0x07_02_01_00_03_0000000000402008) ∷ [])
       (0x01_01_00_00_00000000_0000000000080008_0000000000000000 ∷ [])
   -- the stranger's page is not compared; nor is that of the empty slot, which looks like page 0 of partition 0, context 0
-  pub stranger : searched (Virtual 0 5 (record { 0 = 0x4000 })) four_slots ≡ record { found = At 3; compared = 2 }
-  pub empty : searched (Virtual 0 0 (record { 0 = 0 })) four_slots ≡ record { found = Nothing; compared = 0 }
+  pub stranger : searched (Virtual 0 5 (record { 0 = 0x4000 })) four_slots ≡ record { found = Some 3; compared = 2 }
+  pub empty : searched (Virtual 0 0 (record { 0 = 0 })) four_slots ≡ record { found = None; compared = 0 }
   pub range : ServeAnswers beyond table_beyond [] (refused 11)
   pub size : ServeAnswers beyond (0 ∷ table_beyond) [] (refused 14)

@@ -1,6 +1,6 @@
 -- Document 02, U1: a miss served from the guest's TSB. The caller lends it as two tables: of context zero, and of every other context.
 -- Assumes nothing.
-use Rattle.std.specs.Prelude.{ℕ, ◌+◌, ◌*◌, ◌/◌, ◌%◌, ◌^◌, Bool, cond, ◌&&◌, List, [], ◌∷◌, eqb, ltb, length, take, drop}
+use Rattle.std.specs.Prelude.{ℕ, ◌+◌, ◌*◌, ◌/◌, ◌%◌, ◌^◌, Bool, cond, ◌&&◌, List, [], ◌∷◌, eqb, ltb, length, take, drop, Ok, Err, Result}
 use Rattle.machine.specs.Words.{bits}
 use Rattle.machine.specs.Registers.{tag_access, tag_address}
 use Rattle.machine.specs.Tsb.{tsb_offset, miss_context, tsb_base, tsb_code}
@@ -10,11 +10,10 @@ use Rattle.machine.specs.Access.{Stepped, stepped}
 use Rattle.machine.specs.Step.{insert_step}
 use Rattle.machine.specs.Stream.{Bytes, eight}
 use Rattle.machine.specs.declared.Refusal.TheVariants as refusal
-use Rattle.machine.specs.declared.Verdict.{Verdict}
-use Rattle.machine.specs.declared.Verdict.TheVariants.{Passed, Refused}
 use Rattle.machine.specs.declared.Answer.{Answer}
 use Rattle.machine.specs.declared.Answer.TheVariants as answer
 use Rattle.machine.specs.declared.Part.{Part}
+use Rattle.machine.specs.declared.Refusal.{Refusal}
 
 -- ---- the table, and the place in it
 abbrev pub is_zero_context : List ℕ → ℕ → ℕ → Bool
@@ -47,10 +46,10 @@ asked_table u strand side of_zero of_other =
 abbrev pub no_part : ℕ → Part
 no_part number = record { number = number; other = 0; start = 0; length = 0 }
 
-abbrev pub part_by : Verdict → List ℕ → ℕ → ℕ → Part
-part_by Passed file strand side =
+abbrev pub part_by : Result (Unit {0}) Refusal → List ℕ → ℕ → ℕ → Part
+part_by (Ok _) file strand side =
     record { number = 0; other = cond (is_zero_context file strand side) 0 1; start = entry_start file strand side; length = 16 }
-part_by (Refused r) file strand side = no_part (refusal_number r)
+part_by (Err r) file strand side = no_part (refusal_number r)
 
 -- which part of which table, of any words: number 1 is asked first
 unfoldable pub part_of : Counts → List ℕ → ℕ → ℕ → Bytes → Bytes → Part
@@ -89,9 +88,9 @@ serve_from u strand side table =
     let start : ℕ = entry_start u.registers strand side in
     serve_entry u strand side (eight table start) (eight table (start + 8))
 
-abbrev pub serve_by : Verdict → State → ℕ → ℕ → Bytes → Stepped
-serve_by Passed u strand side table = serve_from u strand side table
-serve_by (Refused r) u strand side table = stepped u (answer.Refused r)
+abbrev pub serve_by : Result (Unit {0}) Refusal → State → ℕ → ℕ → Bytes → Stepped
+serve_by (Ok _) u strand side table = serve_from u strand side table
+serve_by (Err r) u strand side table = stepped u (answer.Refused r)
 
 unfoldable pub serve : State → ℕ → ℕ → Bytes → Bytes → Stepped
 serve u strand side of_zero of_other =

@@ -1,10 +1,8 @@
 -- The slots of one side of a TLB ("buffer" in document 01), any number of them, and what a search of them finds.
 -- Assumes nothing.
-use Rattle.std.specs.Prelude.{ℕ, ◌+◌, ◌*◌, ◌/◌, ◌%◌, ◌^◌, ◌<◌, List, [], ◌∷◌, map, Bool, true, false, not, cond, ◌&&◌, eqb, get_or, set}
+use Rattle.std.specs.Prelude.{ℕ, ◌+◌, ◌*◌, ◌/◌, ◌%◌, ◌^◌, ◌<◌, List, [], ◌∷◌, map, Bool, true, false, not, cond, ◌&&◌, eqb, get_or, set, Some, None, Option}
 use Rattle.std.proofs.lemmas.List.Edits.{sets}
 use Rattle.laws.specs.Tests.{tick, first, count_up_to}
-use Rattle.laws.specs.declared.Found.{Found}
-use Rattle.laws.specs.declared.Found.TheVariants.{At, Nothing}
 use Rattle.machine.specs.Pages.{page_start}
 use Rattle.machine.specs.Words.{reach_of}
 use Rattle.machine.specs.declared.Slot.{Slot}
@@ -110,7 +108,7 @@ is_compared key x = agrees key x && is_live x
 unfoldable pub answers_to : Key → Slot → Bool
 answers_to key x = is_compared key x && holds x (key_address key)
 
-abbrev pub search : Key → List Slot → Found
+abbrev pub search : Key → List Slot → Option ℕ
 search key s = first (answers_to key) s
 
 -- what a search yields: the lowest slot that answers, and how many pages it compared, that one's too
@@ -126,9 +124,9 @@ abbrev pub matched_at : ℕ → PageMatch → Looked
 matched_at i (within r) = hit i r
 matched_at i outside = miss
 
-abbrev pub looked_at : Key → List Slot → Found → Looked
-looked_at key s (At i) = matched_at i (page_match (get_or s i no_slot) (key_address key))
-looked_at key s Nothing = miss
+abbrev pub looked_at : Key → List Slot → Option ℕ → Looked
+looked_at key s (Some i) = matched_at i (page_match (get_or s i no_slot) (key_address key))
+looked_at key s None = miss
 
 unfoldable pub lookup : Key → List Slot → Looked
 lookup key s = looked_at key s (search key s)

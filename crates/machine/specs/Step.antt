@@ -1,6 +1,6 @@
 -- One command of the unit, from a stream with or without the hypervisor's mark: its questions, what it does to the state, and what it answers.
 -- Assumes nothing.
-use Rattle.std.specs.Prelude.{ℕ, ◌+◌, Bool}
+use Rattle.std.specs.Prelude.{ℕ, ◌+◌, Bool, Some, None, Ok, Err, Option, Result}
 use Rattle.laws.specs.Tests.{count}
 use Rattle.machine.specs.Slots.{partition_of, is_real, context_of}
 use Rattle.machine.specs.Registers.{register, with_register, partition, selected}
@@ -13,26 +13,24 @@ use Rattle.machine.specs.Access.{Stepped, stepped, access_of, access_to}
 use Rattle.machine.specs.declared.Slot.{Slot}
 use Rattle.machine.specs.declared.Removal.{Removal}
 use Rattle.machine.specs.declared.Removal.TheVariants as removal
-use Rattle.machine.specs.declared.Placed.{Placed}
-use Rattle.machine.specs.declared.Placed.TheVariants as placement
 use Rattle.machine.specs.declared.Displaced.{Displaced}
 use Rattle.machine.specs.declared.Command.{Command}
 use Rattle.machine.specs.declared.Command.TheVariants as command
 use Rattle.machine.specs.declared.Refusal.TheVariants as refusal
-use Rattle.machine.specs.declared.Verdict.{Verdict}
-use Rattle.machine.specs.declared.Verdict.TheVariants.{Passed, Refused}
 use Rattle.machine.specs.declared.Answer.{Answer}
 use Rattle.machine.specs.declared.Answer.TheVariants as answer
+use Rattle.machine.specs.declared.Refusal.{Refusal}
+use Rattle.machine.specs.declared.NoSlot.{NoSlot}
 
 -- what an answer of kind 4 says of the entry; page address and context are one value, as in tag access
 abbrev pub displaced_of : Slot → Displaced
 displaced_of x = record { partition = partition_of x; real = is_real x; place = x.page + context_of x; word = x.word }
 
 -- an insertion's answer
-abbrev pub placed_answer : Placed → Answer
-placed_answer placement.Done = answer.Done 0
-placed_answer (placement.Displaced x) = answer.Displaced (displaced_of x)
-placed_answer placement.Refused = answer.Refused refusal.NoSlot
+abbrev pub placed_answer : Result (Option Slot) NoSlot → Answer
+placed_answer (Ok None) = answer.Done 0
+placed_answer (Ok (Some x)) = answer.Displaced (displaced_of x)
+placed_answer (Err _) = answer.Refused refusal.NoSlot
 
 -- a demap answers the count removed
 abbrev pub demap : State → ℕ → Removal → Stepped
@@ -57,9 +55,9 @@ act u (command.Pointers strand side) = stepped u (answer.Read (pointer u.registe
 act u (command.Rate strand side) = stepped u (answer.Read (miss_rate u.records (record_of strand side)) 0)
 
 -- a command that a question refused leaves the state
-abbrev pub step_by : Verdict → State → Command → Stepped
-step_by Passed u c = act u c
-step_by (Refused r) u c = stepped u (answer.Refused r)
+abbrev pub step_by : Result (Unit {0}) Refusal → State → Command → Stepped
+step_by (Ok _) u c = act u c
+step_by (Err r) u c = stepped u (answer.Refused r)
 
 unfoldable pub step : Bool → State → Command → Stepped
 step hv u c = step_by (verdict hv u c) u c

@@ -1,6 +1,6 @@
 -- Document 01, "The stream": commands read from bytes, answers as bytes, and a run.
 -- Assumes nothing.
-use Rattle.std.specs.Prelude.{ℕ, zero, suc, ◌+◌, ◌*◌, ◌-◌, ◌/◌, ◌%◌, ◌^◌, Bool, cond, List, [], ◌∷◌, ◌++◌, eqb, ltb, length, get_or}
+use Rattle.std.specs.Prelude.{ℕ, zero, suc, ◌+◌, ◌*◌, ◌-◌, ◌/◌, ◌%◌, ◌^◌, Bool, cond, List, [], ◌∷◌, ◌++◌, eqb, ltb, length, get_or, Ok, Err, Result}
 use Rattle.std.proofs.lemmas.List.Edits.{sets}
 use Rattle.laws.specs.Tests.{tick}
 use Rattle.machine.specs.State.{Counts, State, state_of, encode, words_sound}
@@ -11,8 +11,8 @@ use Rattle.machine.specs.declared.Command.{Command}
 use Rattle.machine.specs.declared.Command.TheVariants as command
 use Rattle.machine.specs.declared.Answer.{Answer}
 use Rattle.machine.specs.declared.Answer.TheVariants as answer
-use Rattle.machine.specs.declared.Decoded.{Decoded}
-use Rattle.machine.specs.declared.Decoded.TheVariants.{Known, Stop}
+use Rattle.machine.specs.declared.Stop.{Stop}
+use Rattle.machine.specs.declared.Stop.TheVariants.{Unsound, NoCommand, Truncated, NoRoom}
 use Rattle.machine.specs.declared.Report.{Report}
 
 abbrev pub Bytes : Type 0
@@ -53,13 +53,20 @@ command_at s at =
     (cond (eqb (byte s at) 9) (command.Pointers (operand 1) (operand 2))
     (command.Rate (operand 1) (operand 2))))))))))
 
--- what stands at a position: number 2 where the byte is no command's, 3 where its width runs past the end
-unfoldable pub decode_at : Bytes → ℕ → Decoded
+-- the number of why a run ends before its input does
+abbrev pub stop_number : Stop → ℕ
+stop_number Unsound = 1
+stop_number NoCommand = 2
+stop_number Truncated = 3
+stop_number NoRoom = 4
+
+-- what stands at a position, a command and its width: number 2 where the byte is no command's, 3 where its width runs past the end
+unfoldable pub decode_at : Bytes → ℕ → Result (Command × ℕ) Stop
 decode_at s at =
     let width : ℕ = width_of (byte s at) in
-    cond (eqb width 0) (Stop 2)
-    (cond (ltb (length s - at) width) (Stop 3)
-    (Known (command_at s at) width))
+    cond (eqb width 0) (Err NoCommand)
+    (cond (ltb (length s - at) width) (Err Truncated)
+    (Ok (command_at s at, width)))
 
 -- ---- answers
 -- eight bytes of a value, big-endian
@@ -119,9 +126,9 @@ abbrev pub more : Command → ℕ → Taken → Taken
 more c width rest = record { commands = c ∷ rest.commands; width = width + rest.width; stop = rest.stop }
 
 -- number 4: no room for one more answer
-abbrev pub takes_one : Decoded → ℕ → (ℕ → Taken) → Taken
-takes_one (Stop k) room rest = ended k
-takes_one (Known c width) room rest = cond (ltb room 24) (ended 4) (more c width (rest width))
+abbrev pub takes_one : Result (Command × ℕ) Stop → ℕ → (ℕ → Taken) → Taken
+takes_one (Err k) room rest = ended (stop_number k)
+takes_one (Ok (c, width)) room rest = cond (ltb room 24) (ended (stop_number NoRoom)) (more c width (rest width))
 
 -- from a position, with room left, at most `turns` commands
 unfoldable pub takes : ℕ → Bytes → ℕ → ℕ → Taken
@@ -169,4 +176,4 @@ unfoldable pub run_of : Bool → Counts → List ℕ → Bytes → Bytes → Out
 run_of hv n words input output =
     cond (words_sound n words)
     (finish hv (state_of n words) output 0 0 (taken_of input (length output)))
-    (record { words = words; output = output; answered = 0; taken = 0; stop = 1 })
+    (record { words = words; output = output; answered = 0; taken = 0; stop = stop_number Unsound })

@@ -20,9 +20,12 @@ ghost use Rattle.machine.specs.Guests.{GuestsConfined, MarkAlone};
 ghost use Rattle.machine.specs.Host.{HostTold};
 ghost use Rattle.machine.specs.Runs.{Runs};
 
-use laws::Found;
+mod below;
 
-// Registers by number: document 01, "Registers". One that each side has stands at the number given plus the side.
+pub use below::{Below, Side, Strand};
+
+// Registers by number: document 01, "Registers", names them so, and asks for a match on their ranges. One that each side has stands at the
+// number given plus the side.
 pub const PARTITION: u8 = 0;
 
 pub const PRIMARY_CONTEXT: u8 = 1;
@@ -45,7 +48,7 @@ pub const FAULT_ADDRESS: u8 = 22;
 
 pub const FAULT_STATUS: u8 = 24;
 
-// What a mode register holds.
+// What a mode register holds: a number in a cell, as C is lent it.
 pub const USER: u64 = 0;
 
 pub const PRIVILEGED: u64 = 1;
@@ -84,7 +87,7 @@ pub const TSB_ENTRY_BYTES: usize = 16;
 // What stands for the size code of a bypass, which has no page.
 pub const BYPASS_CODE: u64 = 15;
 
-// The three kinds of address. None is read for another: each crossing is a function with a name.
+// The three kinds of address, which document 01 asks for. None is read for another: each crossing is a function with a name.
 #[derive(Clone, Copy)]
 pub struct VirtualAddress(pub u64);
 
@@ -132,7 +135,7 @@ pub enum Key {
 //   page   the virtual or real address at which the page starts
 //   word   the TTE; bit 63 says that the slot is live, bits 3:0 are the size code
 //   flags  lock + 2 * used bit
-#[derive(Clone, Copy)]
+#[derive(Clone, Copy, Debug, Default, PartialEq, Eq)]
 pub struct Slot {
     pub owner: u64,
     pub page: u64,
@@ -150,7 +153,7 @@ pub struct Reach {
 // What a search of slots yields: the slot found, and how many pages were compared.
 #[derive(Clone, Copy)]
 pub struct Searched {
-    pub found: Found,
+    pub found: Option<usize>,
     pub compared: usize,
 }
 
@@ -177,7 +180,8 @@ pub enum Wanted {
     Candidate,
 }
 
-// The slot that an insertion takes: an empty one; else an unused candidate; else, with all used bits cleared, a candidate; else none.
+// The slot that an insertion takes: an empty one; else an unused candidate; else, with all used bits cleared, a candidate; else none. No
+// `Option` of a slot: what is done there goes by which of the three it is.
 #[derive(Clone, Copy)]
 pub enum Choice {
     Empty(usize),
@@ -186,15 +190,11 @@ pub enum Choice {
     Full,
 }
 
-// What an insertion comes to: a slot was empty, an entry was displaced, or no slot was to be had.
+// No slot is to be had for an insertion.
 #[derive(Clone, Copy)]
-pub enum Placed {
-    Done,
-    Displaced(Slot),
-    Refused,
-}
+pub struct NoSlot;
 
-// A decoded command, its operands as they stand in the stream.
+// A decoded command, its operands as they stand in the stream: numbers, in the form that document 01 names, which the questions ask in order.
 #[derive(Clone, Copy)]
 pub enum Command {
     Write {
@@ -265,13 +265,6 @@ pub enum Refusal {
     Permission,
 }
 
-// What the questions before a command say.
-#[derive(Clone, Copy)]
-pub enum Verdict {
-    Passed,
-    Refused(Refusal),
-}
-
 // The traps of an access, by the T1's names. A fault type goes with an access exception alone.
 #[derive(Clone, Copy)]
 pub enum Trap {
@@ -286,37 +279,25 @@ pub enum Trap {
     DataProtection,
 }
 
-// The operands of an access, with its side and the address used.
+// The operands of an access, with its side and the address used. Kind, selector and size stay numbers: `access_of` is told of every number,
+// also of one that no question passes.
 #[derive(Clone, Copy)]
 pub struct Access {
-    pub strand: u8,
+    pub strand: Strand,
     pub kind: u8,
-    pub side: u8,
+    pub side: Side,
     pub selector: u8,
     pub size: u8,
     pub used: VirtualAddress,
 }
 
-// What a trap does to tag access: nothing, or it writes the address used and a context.
-#[derive(Clone, Copy)]
-pub enum Tag {
-    Kept,
-    Written(u64),
-}
-
-// How far an access comes before the lookup.
+// How far an access comes before the lookup. A trap with the context that it writes to tag access, where it writes one. Three ways on, each
+// with its name: as an `Option` in a `Result`, `None` would mean the lookup.
 #[derive(Clone, Copy)]
 pub enum Prepared {
-    Stopped(Trap, Tag),
+    Stopped(Trap, Option<u64>),
     Bypass(Translation),
     Lookup,
-}
-
-// What a found entry's word says to an access: a trap, or that it may go on.
-#[derive(Clone, Copy)]
-pub enum Judged {
-    Faulted(Trap),
-    Permitted,
 }
 
 // A trap with the address used and the tag access register after it.
@@ -358,14 +339,16 @@ pub enum Answer {
     Unsound,
 }
 
-// What stands at a position of the stream: a command and its width, or the number that ends the run.
+// Why a run ends before its input does: numbers 1 to 4, in their order.
 #[derive(Clone, Copy)]
-pub enum Decoded {
-    Known(Command, usize),
-    Stop(u8),
+pub enum Stop {
+    Unsound,
+    NoCommand,
+    Truncated,
+    NoRoom,
 }
 
-// What a run returns beside the state and the output.
+// What a run returns beside the state and the output, as C is given it: the stop is a number.
 #[repr(C)]
 #[derive(Clone, Copy)]
 pub struct Report {
@@ -374,8 +357,8 @@ pub struct Report {
     pub stop: u8,
 }
 
-// The part of a lent table that is handed back: of the other one where `other` is 1, else of that for context zero; or a number, and an
-// empty part.
+// The part of a lent table that is handed back, as C is given it: of the other one where `other` is 1, else of that for context zero; or a
+// number, and an empty part.
 #[repr(C)]
 #[derive(Clone, Copy)]
 pub struct Part {

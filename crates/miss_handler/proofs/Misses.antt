@@ -1,5 +1,6 @@
 -- What the questions of a miss come to: where they passed, the entry lies within the table used, is handed back and decides; a refusal changes nothing.
 -- Assumes nothing.
+use Rattle.std.proofs.Common.{Ok, Err}
 use Prim.Native.Nat.{ℕ, ◌+◌, ◌*◌, ◌^◌, ◌<◌, ◌≤◌}
 use mathlib.Core.Path.{◌≡◌, ap, ◌∙◌}
 use mathlib.Core.Bool.{true, false}
@@ -17,7 +18,6 @@ use Rattle.machine.specs.Serve.{is_zero_context, table_used, entry_start, asked_
 use Rattle.machine.specs.Serve.{serve_entry, serve, served_as, served_of}
 use Rattle.machine.specs.declared.Refusal.{Refusal}
 use Rattle.machine.specs.declared.Answer.TheVariants as answer
-use Rattle.machine.specs.declared.Verdict.TheVariants.{Passed, Refused}
 use Rattle.machine.proofs.State.{encode-state, sound-words}
 use Rattle.machine.proofs.Misses.{table-lent, entry-within}
 use Rattle.miss_handler.specs.Ready.{Ready, entry_bytes}
@@ -47,12 +47,11 @@ entry-tag : (table : Bytes) (start : ℕ) → eight (take 16 (drop start table))
 entry-tag table start = entry-eight table start 0 (omega arith) ∙ ap (eight table) (add-zero start)
 
 module _ (words : List ℕ) (strand side : ℕ) (of_zero of_other : Bytes) where
-  pub miss-ready : words_sound counts words ≡ true → ask (asked_table (state_in words) strand side of_zero of_other) ≡ Passed
+  pub miss-ready : words_sound counts words ≡ true → ask (asked_table (state_in words) strand side of_zero of_other) ≡ Ok tt
       → Ready words strand side of_zero of_other
   miss-ready e h =
-      let (s, l) = sound-words counts words e in
       let t = table-lent (state_in words) strand side of_zero of_other h in
-      record { lent = l; sound = s; strands = t.strands; sides = t.sides; table = t.size }
+      record { sound = (sound-words counts words e).0; table = t.size }
 
   pub entry_in-table : Ready words strand side of_zero of_other
       → entry_start (state_in words).registers strand side + 16 ≤ length (table_used (state_in words).registers strand side of_zero of_other)
@@ -63,13 +62,13 @@ module _ (words : List ℕ) (strand side : ℕ) (of_zero of_other : Bytes) where
   unfolding served_of
   served-unsound e = rw e
 
-  pub served-refused : {r : Refusal} → words_sound counts words ≡ true → ask (asked_table (state_in words) strand side of_zero of_other) ≡ Refused r
+  pub served-refused : {r : Refusal} → words_sound counts words ≡ true → ask (asked_table (state_in words) strand side of_zero of_other) ≡ Err r
       → served_of counts words strand side of_zero of_other ≡ record { words = words; answer = answer.Refused r }
   unfolding served_of serve
   served-refused e h = rw (e, h, encode-state counts words (sound-words counts words e).1)
 
   -- else the entry decides: its tag, then its word
-  pub served-passed : words_sound counts words ≡ true → ask (asked_table (state_in words) strand side of_zero of_other) ≡ Passed →
+  pub served-passed : words_sound counts words ≡ true → ask (asked_table (state_in words) strand side of_zero of_other) ≡ Ok tt →
       let entry : Bytes = entry_bytes (state_in words).registers strand side of_zero of_other in
       served_of counts words strand side of_zero of_other ≡ served_as (serve_entry (state_in words) strand side (eight entry 0) (eight entry 8))
   unfolding served_of serve
@@ -77,5 +76,5 @@ module _ (words : List ℕ) (strand side : ℕ) (of_zero of_other : Bytes) where
 
 -- the part that is handed back of a miss that passed
 pub part-entry : (file : List ℕ) (strand side : ℕ) (of_zero of_other : Bytes)
-    → part_bytes (part_by Passed file strand side) of_zero of_other ≡ entry_bytes file strand side of_zero of_other
+    → part_bytes (part_by (Ok tt) file strand side) of_zero of_other ≡ entry_bytes file strand side of_zero of_other
 part-entry file strand side of_zero of_other = by-test (is_zero_context file strand side) (λ e. rw e) (λ e. rw e)

@@ -1,22 +1,30 @@
 // A miss, served from the guest's TSB, which the caller lends as two tables: document 02, U1.
 #![tactic(auto)]
 
-ghost use Rattle.std.specs.Prelude.{◌≡◌, cond, ◌%◌, ◌^◌, ◌<◌, eqb, length};
+ghost use Rattle.std.specs.Prelude.{Ok, ◌≡◌, cond, ◌%◌, ◌^◌, ◌<◌, eqb, length};
+ghost use Rattle.std.specs.Result.{result_and};
 ghost use Rattle.machine.specs.Words.{bits};
 ghost use Rattle.machine.specs.State.{counts, state_in};
 ghost use Rattle.machine.specs.Questions.{ask};
 ghost use Rattle.machine.specs.Serve.{table_used, table_n, table_length, entry_start, asked_table, no_part, part_of, part_bytes};
 ghost use Rattle.machine.specs.Serve.{tag_fits, word_fits, entry_fits, serve_entry, served_of};
-ghost use Rattle.state.specs.Calls.{Lent, SoundIn, Did};
+ghost use Rattle.state.specs.Calls.{SoundIn, Did};
 ghost use Rattle.miss_handler.specs.Ready.{Ready, entry_bytes};
 
-use machine::{Answer, Part, Refusal, Verdict};
+use machine::{Answer, Part, Refusal, Side, Strand};
+use state::State;
+use tsb::PageSize;
 
 // ---- the table, and the place in it
 
 // The table of the context that missed.
-fn table_used<'a>(state: &[u64], strand: u8, side: u8, zero: &'a [u8], other: &'a [u8]) -> &'a [u8]
-    requires { Lent state.now × (strand < 4) × (side < 2) }
+fn table_used<'a>(
+    state: &State,
+    strand: Strand,
+    side: Side,
+    zero: &'a [u8],
+    other: &'a [u8],
+) -> &'a [u8]
     ensures { result.now ≡ table_used (state_in state.now).registers strand side
         zero.now other.now }
 {
@@ -27,16 +35,14 @@ fn table_used<'a>(state: &[u64], strand: u8, side: u8, zero: &'a [u8], other: &'
 }
 
 // N of ps0.
-fn table_n(state: &[u64], strand: u8, side: u8) -> u64
-    requires { Lent state.now × (strand < 4) × (side < 2) }
+fn table_n(state: &State, strand: Strand, side: Side) -> u64
     ensures { result ≡ table_n (state_in state.now).registers strand side }
 {
-    tsb::tsb_base(state, strand, side, 0) % 16
+    tsb::tsb_base(state, strand, side, PageSize::at(0)) % 16
 }
 
 // How long the table used must be.
-fn table_length(state: &[u64], strand: u8, side: u8) -> usize
-    requires { Lent state.now × (strand < 4) × (side < 2) }
+fn table_length(state: &State, strand: Strand, side: Side) -> usize
     ensures { result ≡ table_length (state_in state.now).registers strand side }
 {
     let entries = tsb::tsb_entries(table_n(state, strand, side));
@@ -44,39 +50,44 @@ fn table_length(state: &[u64], strand: u8, side: u8) -> usize
 }
 
 // Where in it the 16 bytes for the ps0 pointer stand.
-fn entry_start(state: &[u64], strand: u8, side: u8) -> usize
-    requires { Lent state.now × (strand < 4) × (side < 2) }
+fn entry_start(state: &State, strand: Strand, side: Side) -> usize
     ensures { result ≡ entry_start (state_in state.now).registers strand side }
 {
     let n = table_n(state, strand, side);
-    let code = tsb::tsb_code(state, strand, side, 0);
+    let code = tsb::tsb_code(state, strand, side, PageSize::at(0));
     let address = tsb::miss_address(state, strand, side);
     tsb::offset_in_tsb(n, code, address) as usize
 }
 
 // Numbers 5, 6 and 14.
-fn ask_table<'a>(state: &[u64], strand: u8, side: u8, zero: &'a [u8], other: &'a [u8]) -> Verdict
-    requires { Lent state.now }
-    ensures { result ≡ ask (asked_table (state_in state.now) strand side
-        zero.now other.now) }
+fn ask_table<'a>(
+    state: &State,
+    strand: u8,
+    side: u8,
+    zero: &'a [u8],
+    other: &'a [u8],
+) -> Result<(Strand, Side), Refusal>
+    ensures { result ≡ result_and (ask (asked_table (state_in state.now) strand side
+        zero.now other.now)) (Ok (strand, side)) }
 {
-    if 4 <= strand {
-        return Verdict::Refused(Refusal::Strand);
-    }
-    if 2 <= side {
-        return Verdict::Refused(Refusal::Side);
-    }
+    let (strand, side) = questions::ask_side(strand, side)?;
     let table = table_used(state, strand, side, zero, other);
     if table.len() != table_length(state, strand, side) {
-        return Verdict::Refused(Refusal::Table);
+        return Err(Refusal::Table);
     }
-    Verdict::Passed
+    Ok((strand, side))
 }
 
 // ---- handing back
 
 // The 16 bytes of a miss that passed: a part of the table used.
-fn entry_of<'a>(state: &[u64], strand: u8, side: u8, zero: &'a [u8], other: &'a [u8]) -> &'a [u8]
+fn entry_of<'a>(
+    state: &State,
+    strand: Strand,
+    side: Side,
+    zero: &'a [u8],
+    other: &'a [u8],
+) -> &'a [u8]
     requires { Ready state.now strand side zero.now other.now }
     ensures bytes { result.now ≡ entry_bytes (state_in state.now).registers strand side
         zero.now other.now }
@@ -100,13 +111,16 @@ pub fn hand_back<'a>(
         (part_of counts state.now strand side zero.now other.now)
         zero.now other.now }
 {
-    if !state::state_sound(state) {
+    let Some(words) = state::sound(state) else {
         return &zero[0..0];
+    };
+    match ask_table(words, strand, side, zero, other) {
+        Ok(asked) => {
+            let (strand, side) = asked;
+            entry_of(words, strand, side, zero, other)
+        }
+        Err(_) => &zero[0..0],
     }
-    if let Verdict::Refused(_) = ask_table(state, strand, side, zero, other) {
-        return &zero[0..0];
-    }
-    entry_of(state, strand, side, zero, other)
 }
 
 // A number, and nothing.
@@ -125,19 +139,20 @@ fn no_part(number: u8) -> Part
 pub fn part_of<'a>(state: &[u64], strand: u8, side: u8, zero: &'a [u8], other: &'a [u8]) -> Part
     ensures { result ≡ part_of counts state.now strand side zero.now other.now }
 {
-    if !state::state_sound(state) {
+    let Some(words) = state::sound(state) else {
         return no_part(1);
-    }
-    if let Verdict::Refused(refusal) = ask_table(state, strand, side, zero, other) {
-        let number = numbers::refusal_number(refusal) as u8;
-        return no_part(number);
-    }
-    let context = tsb::miss_context(state, strand, side);
-    Part {
-        number: 0,
-        other: tsb::other_set(context),
-        start: entry_start(state, strand, side),
-        length: machine::TSB_ENTRY_BYTES,
+    };
+    match ask_table(words, strand, side, zero, other) {
+        Ok(asked) => {
+            let (strand, side) = asked;
+            Part {
+                number: 0,
+                other: tsb::other_set(tsb::miss_context(words, strand, side)),
+                start: entry_start(words, strand, side),
+                length: machine::TSB_ENTRY_BYTES,
+            }
+        }
+        Err(refusal) => no_part(numbers::refusal_number(refusal) as u8),
     }
 }
 
@@ -169,11 +184,10 @@ fn word_fits(code: u64, word: u64) -> bool
 }
 
 // An entry, its tag and its word, against the miss.
-fn entry_fits(state: &[u64], strand: u8, side: u8, tag: u64, word: u64) -> bool
-    requires { Lent state.now × (strand < 4) × (side < 2) }
+fn entry_fits(state: &State, strand: Strand, side: Side, tag: u64, word: u64) -> bool
     ensures { result ≡ entry_fits (state_in state.now).registers strand side tag word }
 {
-    let code = tsb::tsb_code(state, strand, side, 0);
+    let code = tsb::tsb_code(state, strand, side, PageSize::at(0));
     let context = tsb::miss_context(state, strand, side);
     let address = tsb::miss_address(state, strand, side);
     tag_fits(code, context, address, tag) && word_fits(code, word)
@@ -182,8 +196,8 @@ fn entry_fits(state: &[u64], strand: u8, side: u8, tag: u64, word: u64) -> bool
 // ---- serving
 
 // An entry goes in, unlocked and virtual, where it fits.
-fn serve_entry(state: &mut [u64], strand: u8, side: u8, tag: u64, word: u64) -> Answer
-    requires { Lent state.old × SoundIn state.old × (strand < 4) × (side < 2) }
+fn serve_entry(state: &mut State, strand: Strand, side: Side, tag: u64, word: u64) -> Answer
+    requires { SoundIn state.old }
     ensures { Did state.new result
         (serve_entry (state_in state.old) strand side tag word) }
 {
@@ -200,14 +214,17 @@ pub fn serve<'a>(state: &mut [u64], strand: u8, side: u8, zero: &'a [u8], other:
     ensures answer { result ≡
         (served_of counts state.old strand side zero.now other.now).answer }
 {
-    if !state::state_sound(state) {
+    let Some(words) = state::sound_mut(state) else {
         return Answer::Unsound;
+    };
+    match ask_table(words, strand, side, zero, other) {
+        Ok(asked) => {
+            let (strand, side) = asked;
+            let entry = entry_of(words, strand, side, zero, other);
+            let tag = wire::eight_bytes(entry, 0);
+            let word = wire::eight_bytes(entry, 8);
+            serve_entry(words, strand, side, tag, word)
+        }
+        Err(refusal) => Answer::Refused(refusal),
     }
-    if let Verdict::Refused(refusal) = ask_table(state, strand, side, zero, other) {
-        return Answer::Refused(refusal);
-    }
-    let entry = entry_of(state, strand, side, zero, other);
-    let tag = wire::eight_bytes(entry, 0);
-    let word = wire::eight_bytes(entry, 8);
-    serve_entry(state, strand, side, tag, word)
 }

@@ -1,5 +1,6 @@
 -- What the code that acts may rely on: the operands of a command that passed its questions, and an entry displaced from a sound side.
 -- Assumes nothing.
+use Rattle.std.proofs.Common.{Some, None, Ok, Err, Option, Result}
 use mathlib.Core.Path.{◌≡◌}
 use mathlib.Core.Bool.{Bool, true}
 use mathlib.Core.List.{List}
@@ -14,21 +15,19 @@ use Rattle.machine.specs.Registers.{known, writable}
 use Rattle.machine.specs.State.{State}
 use Rattle.machine.specs.Questions.{asked, asked_insertion, verdict}
 use Rattle.machine.specs.declared.Slot.{Slot}
-use Rattle.machine.specs.declared.Placed.{Placed}
-use Rattle.machine.specs.declared.Placed.TheVariants.{Done, Displaced, Refused}
 use Rattle.machine.specs.declared.Command.{Command}
 use Rattle.machine.specs.declared.Command.TheVariants as command
-use Rattle.machine.specs.declared.Verdict.TheVariants.{Passed}
 use Rattle.machine.proofs.Insertion.{PlacedSays, placed-says}
 use Rattle.machine.proofs.Sound.{live-parts, sound-slot}
 use Rattle.machine.proofs.Sides.{aligned}
 use Rattle.machine.proofs.Commands.{range-fits}
 use Rattle.machine.proofs.State.{passed-asked, known-below, writable-below}
 use Rattle.mmu.specs.Fits.{PlaceFits, OperandsFit}
+use Rattle.machine.specs.declared.NoSlot.{NoSlot}
 
 ruleset conj = (and_left, and_right, eqb-true, ltb-true)
 
-pub passed-fit : (hv : Bool) (u : State) (c : Command) → verdict hv u c ≡ Passed → OperandsFit c
+pub passed-fit : (hv : Bool) (u : State) (c : Command) → verdict hv u c ≡ Ok tt → OperandsFit c
 unfolding asked asked_insertion all_of
 passed-fit hv u (command.Write strand number value) v =
     let q = passed-asked hv u (command.Write strand number value) v in
@@ -67,10 +66,10 @@ passed-fit hv u (command.Rate strand side) v =
 pub place-fits : (new : Slot) (s : List Slot) → side_sound s ≡ true → PlaceFits (placed candidate new s)
 place-fits new s h = go (placed candidate new s) (placed-says candidate new s)
   where
-    go : (r : Placed) → PlacedSays candidate new s r → PlaceFits r
-    go Done w = tt
-    go Refused w = tt
-    go (Displaced x) w =
+    go : (r : Result (Option Slot) NoSlot) → PlacedSays candidate new s r → PlaceFits r
+    go (Ok None) w = tt
+    go (Err _) w = tt
+    go (Ok (Some x)) w =
         let k : slot_sound x ≡ true = rw w.there at (sound-slot s w.index h) in
         let l : is_live x ≡ true = and_left _ _ w.allowed in
         let p = live-parts x k l in

@@ -1,6 +1,5 @@
 -- The line of an answer: 48 lower-case hexadecimal digits and a line end.
 -- Assumes nothing.
--- Assumes nothing.
 use Rattle.std.specs.Prelude.{ℕ, zero, suc, ◌+◌, ◌/◌, ◌%◌, cond, List, [], ◌∷◌, eqb, ltb, get_or}
 
 unfoldable pub digit_of : ℕ → ℕ

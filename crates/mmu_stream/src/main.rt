@@ -2,73 +2,60 @@
 // hexadecimal; then a line that starts with `end` and has the three numbers that the run returns, the stop last.
 #![tactic(auto)]
 
-ghost use Rattle.std.specs.Prelude.{◌≡◌, ◌+◌, ◌*◌, ◌<◌, ◌≤◌, length};
-ghost use Rattle.mmu_stream.specs.Line.{digit_of, line_at, list_of};
+ghost use Rattle.std.specs.Prelude.{◌≤◌, length, Some};
+ghost use Rattle.mmu_stream.specs.Line.{line_at, list_of};
 
-fn digit(n: u8) -> u8
-    requires { n < 16 }
-    ensures { result ≡ digit_of n }
-{
-    if n < 10 { n + 48 } else { n + 87 }
-}
+use machine::Report;
+use std::io::Read;
+use std::{fmt, io};
 
-// Place k of the line of the answer at a position.
-fn line_byte(output: &[u8], at: usize, k: usize) -> u8
-    requires { (at + 24 ≤ length output.now) × (k < 49) }
-    ensures { result ≡ line_at output.now at k }
-{
-    if k == 48 {
-        return b'\n';
-    }
-    if k % 2 == 0 {
-        digit(output[at + k / 2] / 16)
-    } else {
-        digit(output[at + k / 2] % 16)
+// The line of an answer, its end included.
+#[derive(Clone, Copy)]
+struct Line<'a>(&'a [u8; machine::ANSWER_BYTES]);
+
+impl fmt::Display for Line<'_> {
+    ghost output = { λ line. Some (list_of (line_at line.0.now 0) 0 49) };
+
+    fn fmt<W: fmt::Write>(&self, f: &mut fmt::Formatter<W>) -> fmt::Result {
+        for byte in self.0 {
+            write!(f, "{byte:02x}")?;
+        }
+        writeln!(f)
     }
 }
 
-// The whole line of the answer at a position.
-fn spell(output: &[u8], at: usize) -> [u8; 49]
-    requires { at + 24 ≤ length output.now }
-    ensures { result ≡ list_of (line_at output.now at) 0 49 }
+// Fills a buffer up to where the input ends or a read fails, and says how far.
+fn read_full<R: Read>(reader: &mut R, buf: &mut [u8]) -> usize
+    ensures { result ≤ length buf.new }
 {
-    let mut line = [0u8; 49];
-    let mut k = 0;
-    while k < 49 {
-        line[k] = line_byte(output, at, k);
-        k += 1;
+    let mut done = 0;
+    // over reads, of which each says how far it came: no index is counted
+    while let Ok(n @ 1..) = reader.read(&mut buf[done..]) {
+        done += n;
     }
-    line
+    done
 }
 
-fn print_answers(output: &[u8], answered: usize)
-    requires { answered * 24 ≤ length output.now }
-{
-    let mut i = 0;
-    while i < answered {
-        let line = spell(output, i * machine::ANSWER_BYTES);
-        io::write_all(1, &line);
-        i += 1;
+// A line for each answer, and the end.
+fn print_run(
+    rt: &impl Print,
+    answers: &[[u8; machine::ANSWER_BYTES]],
+    ran: Report,
+) -> io::Result<()> {
+    for answer in answers {
+        print!(rt; "{}", Line(answer))?;
     }
+    println!(rt; "end {} {} {}", ran.answered, ran.taken, ran.stop)
 }
 
-fn print_end(answered: usize, taken: usize, stop: u8) {
-    io::write_all(1, b"end ");
-    io::print_decimal(1, answered as u64);
-    io::write_all(1, b" ");
-    io::print_decimal(1, taken as u64);
-    io::write_all(1, b" ");
-    io::print_decimal(1, stop as u64);
-    io::write_all(1, b"\n");
-}
-
-fn main() {
-    let mut input = [0u8; 4096];
-    let mut output = [0u8; 49152];
-    let mut words = [0u64; machine::STATE_WORDS];
-    let n = io::read_full(0, &mut input);
+fn main(rt: HostRuntime) {
+    let mut input = [0; 4096];
+    let mut output = [0; 49152];
+    let mut words = [0; machine::STATE_WORDS];
+    let n = read_full(&mut rt.stdin(), &mut input);
     state::reset(&mut words);
     let ran = stream::run(&mut words, &input[..n], &mut output, false);
-    print_answers(&output, ran.answered);
-    print_end(ran.answered, ran.taken, ran.stop);
+    let (answers, _) = output.as_chunks();
+    // output that cannot be written ends the program, which has nothing else to do: status 0
+    let _ = print_run(&rt, &answers[..ran.answered], ran);
 }

@@ -1,11 +1,12 @@
-// The document's numbers of traps and refusals.
+// The document's numbers of traps, refusals and stops. Functions with the definitions' names, and no `From`: a trap has two numbers.
 #![tactic(auto)]
 
 ghost use Rattle.std.specs.Prelude.{◌≡◌};
 ghost use Rattle.machine.specs.Questions.{refusal_number};
 ghost use Rattle.machine.specs.Access.{trap_number, trap_fault};
+ghost use Rattle.machine.specs.Stream.{stop_number};
 
-use machine::{Refusal, Trap};
+use machine::{Refusal, Stop, Trap};
 
 pub fn trap_number(trap: Trap) -> u64
     ensures { result ≡ trap_number trap }
@@ -56,5 +57,16 @@ pub fn refusal_number(refusal: Refusal) -> u64
         Refusal::Table => 14,
         Refusal::NoLookup => 15,
         Refusal::Permission => 16,
+    }
+}
+
+pub fn stop_number(stop: Stop) -> u8
+    ensures { result ≡ stop_number stop }
+{
+    match stop {
+        Stop::Unsound => 1,
+        Stop::NoCommand => 2,
+        Stop::Truncated => 3,
+        Stop::NoRoom => 4,
     }
 }

@@ -4,16 +4,16 @@
 ghost use Rattle.std.specs.Prelude.{◌≡◌, ◌<◌};
 ghost use Rattle.machine.specs.Registers.{selected, tag_access, tag_address, tag_context};
 ghost use Rattle.machine.specs.State.{state_in};
-ghost use Rattle.state.specs.Calls.{Lent};
 ghost use Rattle.machine.specs.Questions.{kind_side, flag_real, flag_locked, key_of, insertion};
 
-use machine::{Key, Slot, VirtualAddress};
+use machine::{Key, Side, Slot, Strand, VirtualAddress};
+use state::State;
 
 // The side of an access: a fetch is kind 0.
-pub fn access_side(kind: u8) -> u8
+pub fn access_side(kind: u8) -> Side
     ensures { result ≡ kind_side kind }
 {
-    if kind == 0 { 0 } else { 1 }
+    if kind == 0 { Side::at(0) } else { Side::at(1) }
 }
 
 // Flags of an insertion: 1 real, 2 locked; of a demap page: 1 real.
@@ -30,8 +30,7 @@ fn flag_locked(flags: u8) -> bool
 }
 
 // The context that a selector picks: primary, secondary, or 0 for the nucleus.
-pub fn selected_context(state: &[u64], strand: u8, selector: u8) -> u64
-    requires { Lent state.now × (strand < 4) }
+pub fn selected_context(state: &State, strand: Strand, selector: u8) -> u64
     ensures { result ≡ selected (state_in state.now).registers strand selector }
 {
     if selector == 2 {
@@ -61,11 +60,10 @@ pub fn key_for(real: bool, partition: u64, context: u64, address: VirtualAddress
 }
 
 // The side's tag access register, and what stands in it.
-pub fn tag_of(state: &[u64], strand: u8, side: u8) -> u64
-    requires { Lent state.now × (strand < 4) × (side < 2) }
+pub fn tag_of(state: &State, strand: Strand, side: Side) -> u64
     ensures { result ≡ tag_access (state_in state.now).registers strand side }
 {
-    state::read_register(state, strand, machine::TAG_ACCESS + side)
+    state::read_register(state, strand, machine::TAG_ACCESS + side.number())
 }
 
 pub fn tag_address(tag: u64) -> VirtualAddress
@@ -81,8 +79,7 @@ pub fn tag_context(tag: u64) -> u64
 }
 
 // The entry of an insertion, from the strand's partition and tag access.
-pub fn entry_for(state: &[u64], strand: u8, side: u8, flags: u8, word: u64) -> Slot
-    requires { Lent state.now × (strand < 4) × (side < 2) }
+pub fn entry_for(state: &State, strand: Strand, side: Side, flags: u8, word: u64) -> Slot
     ensures { result ≡ insertion (state_in state.now) strand side flags word }
 {
     let tag = tag_of(state, strand, side);

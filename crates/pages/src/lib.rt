@@ -7,6 +7,7 @@ ghost use Rattle.machine.specs.Pages.{in_range, listed, page_shift, page_size, p
 use machine::{PhysicalAddress, RealAddress, VirtualAddress};
 
 // A virtual or real address below 2^47 or among the last 2^47.
+#[tactic(auto, unfolding(machine::specs::Pages::in_range))]
 pub fn in_range(address: u64) -> bool
     ensures { result ≡ in_range address }
 {
@@ -28,16 +29,15 @@ pub fn bypass(address: VirtualAddress) -> PhysicalAddress
 }
 
 // Whether a size code picks a page.
+#[tactic(auto, unfolding(machine::specs::Pages::listed))]
 pub fn code_listed(code: u64) -> bool
     ensures { result ≡ listed code }
 {
-    match code {
-        0 | 1 | 3 | 5 => true,
-        _ => false,
-    }
+    matches!(code, 0 | 1 | 3 | 5)
 }
 
 // The page shift that a size code picks: 8 KB, 64 KB, 4 MB, 256 MB. An unlisted code has no page.
+#[tactic(auto, unfolding(machine::specs::Pages::page_shift))]
 pub fn page_shift(code: u64) -> u64
     ensures { result ≡ page_shift code }
 {
@@ -60,13 +60,7 @@ pub fn page_size(code: u64) -> u64
 pub fn page_mask(code: u64) -> u64
     ensures { result ≡ page_size code - 1 }
 {
-    match code {
-        0 => 0x1FFF,
-        1 => 0xFFFF,
-        3 => 0x3F_FFFF,
-        5 => 0xFFF_FFFF,
-        _ => 0,
-    }
+    page_size(code) - 1
 }
 
 // The address rounded down. The last page ends at 2^64, so a page's end is never computed.

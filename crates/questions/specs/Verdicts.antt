@@ -1,16 +1,20 @@
 -- What the functions of this crate answer. Assumes nothing.
-use Rattle.std.specs.Prelude.{ℕ, ◌≡◌, Bool, List, [], ◌∷◌, ◌++◌, ltb, leb}
+use Rattle.std.specs.Prelude.{ℕ, ◌≡◌, Bool, List, [], ◌∷◌, ◌++◌, ltb, leb, Result}
 use Rattle.machine.specs.Registers.{mode}
 use Rattle.machine.specs.Permission.{least_mode}
 use Rattle.machine.specs.State.{State}
 use Rattle.machine.specs.Questions.{Question, question, selector_fits, verdict}
 use Rattle.machine.specs.declared.Command.{Command}
 use Rattle.machine.specs.declared.Refusal.TheVariants as refusal
-use Rattle.machine.specs.declared.Verdict.{Verdict}
+use Rattle.machine.specs.declared.Refusal.{Refusal}
 
 -- the verdict on a command that does not go by the stream's mark
-abbrev pub Either : Verdict → State → Command → Type 0
+abbrev pub Either : Result (Unit {0}) Refusal → State → Command → Type 0
 Either v u c = (hv : Bool) → v ≡ verdict hv u c
+
+-- 5, with which commands by a strand begin
+abbrev pub asked_strand : ℕ → List Question
+asked_strand strand = question refusal.Strand (ltb strand 4) ∷ []
 
 -- 5 and 6, with which commands on a side begin
 abbrev pub asked_side : ℕ → ℕ → List Question

@@ -1,23 +1,22 @@
 // Registers: document 01, "Registers". Which numbers there are and the values that they may hold.
 #![tactic(auto)]
 
-ghost use Rattle.std.specs.Prelude.{◌≡◌, true, ◌+◌};
+ghost use Rattle.std.specs.Prelude.{◌≡◌, get_or};
+ghost use Rattle.std.specs.List.{list_all};
+ghost use Rattle.laws.specs.Tests.{all_below};
 ghost use Rattle.machine.specs.Permission.{guest_writable};
 ghost use Rattle.machine.specs.Registers.{known, writable, base_allowed, configuration_allowed, allowed, registers_sound};
-ghost use Rattle.registers.specs.Cells.{Range, Strand, CellsTold};
 
 // 0 to 5 and 8 to 25.
+#[tactic(auto, unfolding(machine::specs::Registers::known))]
 pub fn is_known(number: u8) -> bool
     ensures { result ≡ known number }
 {
-    match number {
-        0..=5 => true,
-        8..=25 => true,
-        _ => false,
-    }
+    matches!(number, 0..=5 | 8..=25)
 }
 
 // 22 to 25 are read only.
+#[tactic(auto, unfolding(machine::specs::Registers::writable))]
 pub fn is_writable(number: u8) -> bool
     ensures { result ≡ writable number }
 {
@@ -25,18 +24,15 @@ pub fn is_writable(number: u8) -> bool
 }
 
 // Open to mode 1 (number 16): contexts, address mask, and from the TSB bases on to tag access.
+#[tactic(auto, unfolding(machine::specs::Permission::guest_writable))]
 pub fn is_guest_writable(number: u8) -> bool
     ensures { result ≡ guest_writable number }
 {
-    match number {
-        1..=2 => true,
-        5 => true,
-        8..=21 => true,
-        _ => false,
-    }
+    matches!(number, 1..=2 | 5 | 8..=21)
 }
 
 // A TSB base: bits 12:4 zero.
+#[tactic(auto, unfolding(machine::specs::Registers::base_allowed))]
 fn is_base(value: u64) -> bool
     ensures { result ≡ base_allowed value }
 {
@@ -44,6 +40,7 @@ fn is_base(value: u64) -> bool
 }
 
 // A TSB configuration: two size codes and nothing else.
+#[tactic(auto, unfolding(machine::specs::Registers::configuration_allowed))]
 fn is_configuration(value: u64) -> bool
     ensures { result ≡ configuration_allowed value }
 {
@@ -52,6 +49,7 @@ fn is_configuration(value: u64) -> bool
 }
 
 // The value that a register may hold; a cell that is no register holds 0.
+#[tactic(auto, unfolding(machine::specs::Registers::allowed))]
 pub fn is_allowed(number: u8, value: u64) -> bool
     ensures { result ≡ allowed number value }
 {
@@ -68,70 +66,33 @@ pub fn is_allowed(number: u8, value: u64) -> bool
     }
 }
 
-// Whether a strand's cells from .. to hold what they may, where those below do. They are of one range, so that the compiler knows the arm of
-// the match that tests them.
-fn cells_fit(file: &[u64], start: usize, from: u8, to: u8) -> bool
-    requires { Strand file.now start × Range from to × CellsTold file.now (start + from) true }
-    ensures { CellsTold file.now (start + to) result }
+// Whether cells hold what the register of the number given may. They are of one range, so that the compiler knows the arm of the match that
+// tests them.
+fn cells_fit(cells: &[u64], number: u8) -> bool
+    ensures { result ≡ list_all (allowed number) cells.now }
 {
-    let mut i = from;
-    while i < to {
-        if !is_allowed(from, file[start + i as usize]) {
-            return false;
-        }
-        i += 1;
-    }
-    true
+    cells.iter().all(|&value| is_allowed(number, value))
 }
 
-// Whether a strand's cells hold what they may, where those of the strands before it do.
-fn strand_fits(file: &[u64], start: usize) -> bool
-    requires { Strand file.now start × CellsTold file.now start true }
-    ensures { CellsTold file.now (start + 32) result }
+// Whether a strand's 32 cells hold what they may.
+fn strand_fits(cells: &[u64; machine::STRAND_CELLS]) -> bool
+    ensures { result ≡ all_below (λ k. allowed k (get_or cells.now k 0)) 32 }
 {
-    if !cells_fit(file, start, 0, 1) {
-        return false;
-    }
-    if !cells_fit(file, start, 1, 3) {
-        return false;
-    }
-    if !cells_fit(file, start, 3, 4) {
-        return false;
-    }
-    if !cells_fit(file, start, 4, 5) {
-        return false;
-    }
-    if !cells_fit(file, start, 5, 6) {
-        return false;
-    }
-    if !cells_fit(file, start, 6, 8) {
-        return false;
-    }
-    if !cells_fit(file, start, 8, 16) {
-        return false;
-    }
-    if !cells_fit(file, start, 16, 20) {
-        return false;
-    }
-    if !cells_fit(file, start, 20, 26) {
-        return false;
-    }
-    cells_fit(file, start, 26, 32)
+    cells_fit(&cells[0..1], 0)
+        && cells_fit(&cells[1..3], 1)
+        && cells_fit(&cells[3..4], 3)
+        && cells_fit(&cells[4..5], 4)
+        && cells_fit(&cells[5..6], 5)
+        && cells_fit(&cells[6..8], 6)
+        && cells_fit(&cells[8..16], 8)
+        && cells_fit(&cells[16..20], 16)
+        && cells_fit(&cells[20..26], 20)
+        && cells_fit(&cells[26..32], 26)
 }
 
 // Whether a register file has 128 cells and each holds a value that its register may hold.
 pub fn file_sound(file: &[u64]) -> bool
     ensures { result ≡ registers_sound file.now }
 {
-    if file.len() != machine::REGISTER_WORDS {
-        return false;
-    }
-    let mut start = 0;
-    while start < machine::REGISTER_WORDS {
-        if !strand_fits(file, start) {
-            return false;
-        }
-        start += machine::STRAND_CELLS;
-    }
-    true
+    file.len() == machine::REGISTER_WORDS && file.as_chunks().0.iter().all(strand_fits)
 }

@@ -8,7 +8,6 @@ ghost use Rattle.machine.specs.Sound.{side_sound};
 ghost use Rattle.machine.specs.Questions.{key_of};
 ghost use Rattle.search_count.specs.Counted.{fits, searched_any, counted_of};
 
-use laws::Found;
 use machine::{Key, Searched, VirtualAddress};
 
 // Whether partition and context have room in an owner word.
@@ -48,7 +47,7 @@ pub fn search_any(slots: &[u64], key: Key) -> Searched
         return tlb::search(slots, key);
     }
     Searched {
-        found: Found::Nothing,
+        found: None,
         compared: 0,
     }
 }
@@ -66,11 +65,7 @@ pub fn search_count(slots: &[u64], real: u8, partition: u64, context: u64, addre
 {
     let key = operands::key_for(real == 1, partition, context, VirtualAddress(address));
     let searched = search_any(slots, key);
-    let found = searched.found;
-    let slot = match found {
-        Found::At(i) => i,
-        Found::Nothing => slots.len() / machine::SLOT_WORDS,
-    };
+    let slot = searched.found.unwrap_or(slots.len() / machine::SLOT_WORDS);
     Counted {
         slot: slot,
         compared: searched.compared,

@@ -1,4 +1,6 @@
 -- The parts of a state that are lent: a side as `state[a..a + 256]`, and all parts for soundness. Assumes nothing.
+use Rattle.std.proofs.Common.{None, Some, Option, MatchOption, ◌≢◌, true, false}
+use Rattle.std.specs.Array.{IsWholeChunk}
 use Prim.Native.Nat.{ℕ, ◌+◌, ◌-◌, ◌*◌, ◌<◌}
 use mathlib.Core.Path.{◌≡◌, ◌∙◌}
 use mathlib.Core.Bool.{◌&&◌}
@@ -11,10 +13,15 @@ use Rattle.machine.specs.Slots.{slots_of, words_of}
 use Rattle.machine.specs.Sound.{side_sound}
 use Rattle.machine.specs.Registers.{registers_sound}
 use Rattle.machine.specs.Record.{records_sound}
-use Rattle.machine.specs.State.{counts, slot_count, state_of, state_in, side_of, words_sound}
+use Rattle.machine.specs.State.{counts, slot_count, state_of, state_in, state_length, side_of, words_sound}
 use Rattle.machine.specs.declared.Slot.{Slot}
-use Rattle.state.specs.Calls.{Lent, on_side}
+use Rattle.machine.proofs.State.{sound-words}
+use Rattle.state.specs.Calls.{on_side}
 use Rattle.state.proofs.Parts.{sized-words, sized-side, side-length, side-read, side-stored, sound-parts}
+
+-- words of a state's length, as the type `State` has them
+abbrev pub Lent : List ℕ → Type 0
+Lent words = length words ≡ state_length
 
 -- either side has 64 slots
 pub side-slots : (words : List ℕ) → Lent words → (side : ℕ) → length (side_of (state_in words) side) ≡ 64
@@ -50,3 +57,10 @@ pub lent-sound : (words : List ℕ) → Lent words → words_sound counts words
     && (side_sound (slots_of (take 256 (drop 384 words))) && records_sound (state_in words).records)))
 unfolding state_of
 lent-sound words l = sound-parts counts words l
+
+-- sound words have the array's length, and so are one
+pub sound-array : {B : Type 0} (words : List ℕ) (now : B → List ℕ) (o : Option B) → words_sound counts words ≡ true
+    → MatchOption o (length words ≢ 776) (λ y. IsWholeChunk words (now y) 776)
+    → MatchOption o (words_sound counts words ≡ false) (λ y. (words_sound counts words ≡ true) × (now y ≡ words))
+sound-array words now None e h = absurd (h (sound-words counts words e).1)
+sound-array words now (Some y) e h = (e, h.same)

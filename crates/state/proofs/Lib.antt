@@ -1,4 +1,3 @@
 pub mod Parts
 pub mod Lent
 pub mod Lookups
-pub mod Filled

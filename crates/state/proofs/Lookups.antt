@@ -13,7 +13,8 @@ use Rattle.laws.proofs.Belows.{below_at}
 use Rattle.machine.specs.Record.{Records, older_of, with_older, turned, pushed, put, noted, record_sound, records_sound}
 use Rattle.machine.specs.State.{counts, State, state_in, with_records, encode}
 use Rattle.machine.proofs.State.{Sized, sound-records, encode-length, state-encode, encode-state}
-use Rattle.state.specs.Calls.{Lent, SoundIn, on_records, miss_noted}
+use Rattle.state.specs.Calls.{SoundIn, on_records, miss_noted}
+use Rattle.state.proofs.Lent.{Lent}
 use Rattle.state.proofs.Parts.{sized-words, spliced, seen_read, newest-read, older-read, seen_stored, newest-stored, older-stored}
 
 -- a state with other records, as long as they were
@@ -146,9 +147,6 @@ module _ (words : List ℕ) (l : Lent words) (r : ℕ) (h : r < 8) where
 
     -- a full one
     module _ {t : List ℕ} (e : t ≡ on_records (turned r) words) where
-      pub turned-lent : Lent t
-      turned-lent = ap length e ∙ encode-length counts _ turned-sized
-
       pub turned-small : get_or (state_in t).records.seen r 0 < 1089
       unfolding turned
       turned-small = rw (e, turned-back) (rw (get_or-set_same x.seen r _ 0 (omega (arith, z.seen))) (by-test (ltb 1024 (get_or x.seen r 0))

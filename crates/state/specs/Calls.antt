@@ -1,15 +1,11 @@
 -- How contracts on lent words are said.
 -- Assumes nothing.
-use Rattle.std.specs.Prelude.{ℕ, ◌+◌, ◌≡◌, true, List, length, get_or, set}
+use Rattle.std.specs.Prelude.{ℕ, ◌+◌, ◌≡◌, true, List, get_or, set}
 use Rattle.machine.specs.Record.{Records}
-use Rattle.machine.specs.State.{counts, state_in, state_length, encode, side_of, with_side, with_records, sound}
+use Rattle.machine.specs.State.{counts, state_in, encode, side_of, with_side, with_records, sound}
 use Rattle.machine.specs.Access.{Stepped}
 use Rattle.machine.specs.declared.Slot.{Slot}
 use Rattle.machine.specs.declared.Answer.{Answer}
-
--- words of a state's length
-abbrev pub Lent : List ℕ → Type 0
-Lent words = length words ≡ state_length
 
 -- the state that they hold is sound
 abbrev pub SoundIn : List ℕ → Type 0

@@ -1,13 +1,11 @@
 -- What the code asks in place of `answers_to` and `overlaps`: numbers, and tables of them by size code. None of this is in a promise of `search`
 -- or `overlaps_none`.
 -- Assumes nothing.
-use Rattle.std.specs.Prelude.{ℕ, ◌+◌, ◌*◌, ◌/◌, ◌^◌, max, ◌≡◌, List, Bool, cond, ◌&&◌, eqb, get_or, set, replicate, drop}
+use Rattle.std.specs.Prelude.{ℕ, ◌+◌, ◌*◌, ◌/◌, ◌^◌, max, List, Bool, ◌&&◌, eqb, get_or, set, replicate, drop}
 use Rattle.laws.specs.Tests.{first_from, count_up_to}
-use Rattle.laws.specs.declared.Found.TheVariants.{At}
 use Rattle.machine.specs.Slots.{is_live, size_code, slots_of}
 use Rattle.machine.specs.declared.Slot.{Slot}
 use Rattle.machine.specs.declared.Searched.{Searched}
-use Rattle.tlb.specs.declared.Walked.{Walked}
 
 -- f of the page shift at a listed size code, and another number at the others
 abbrev pub by_code : ℕ → (ℕ → ℕ) → List ℕ
@@ -32,18 +30,15 @@ starts_by start x = eqb (get_or start (size_code x) 0) x.page
 unfoldable pub answers_by : ℕ → List ℕ → Slot → Bool
 answers_by owner start x = compared_by owner x && starts_by start x
 
+-- what a search of some slots yields, of which the first is slot i
+abbrev pub searched_by : ℕ → List ℕ → ℕ → List Slot → Searched
+searched_by owner start i s =
+    record { found = first_from (answers_by owner start) i s; compared = count_up_to (compared_by owner) (answers_by owner start) s }
+
 -- what a search of the slots from i on yields
 abbrev pub searched_from : ℕ → List ℕ → List ℕ → ℕ → Searched
-searched_from owner start l i =
-    let s : List Slot = drop i (slots_of l) in
-    record { found = first_from (answers_by owner start) i s; compared = count_up_to (compared_by owner) (answers_by owner start) s }
+searched_from owner start l i = searched_by owner start i (drop i (slots_of l))
 
 -- what a search yields that has compared c pages before
 abbrev pub after : ℕ → Searched → Searched
 after c r = record { found = r.found; compared = c + r.compared }
-
--- a walk of k slots from i on: it passed all of them, and the others yield the rest; or it found one
-abbrev pub Walks : ℕ → List ℕ → List ℕ → ℕ → ℕ → Walked → Type 0
-Walks owner start l i k w =
-    searched_from owner start l i
-    ≡ cond (eqb w.passed k) (after w.compared (searched_from owner start l (i + k))) (record { found = At (i + w.passed); compared = w.compared })

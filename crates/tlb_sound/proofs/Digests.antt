@@ -1,5 +1,5 @@
 -- Laws of the digest: what it says holds of every slot, and a side is sound by itself slot by slot where it says so. Assumes nothing.
-use Rattle.std.proofs.Common.{◌≡◌, ℕ, ◌+◌, ◌-◌, ◌*◌, ◌/◌, ◌%◌, ◌^◌, ◌<◌, ◌≤◌, max, true, false, not, ◌&&◌, ◌||◌, eqb, ltb, leb, List, [], ◌∷◌, length, get_or, drop, sym, refl, ap, ◌∙◌, le_trans, add-one, arith, drop_of_length-le, drop-cons, ltb-false, ltb-true, le-ltb, lt-ltb, eq-eqb, ne_eqb, eqb-true, le-leb, leb-false, leb-true}
+use Rattle.std.proofs.Common.{◌≡◌, ℕ, ◌+◌, ◌-◌, ◌*◌, ◌/◌, ◌%◌, ◌^◌, ◌<◌, ◌≤◌, max, true, false, not, ◌&&◌, ◌||◌, eqb, ltb, leb, List, [], ◌∷◌, map, ◌++◌, sym, refl, ap, ◌∙◌, le_trans, arith, ltb-false, ltb-true, le-ltb, lt-ltb, eq-eqb, ne_eqb, eqb-true, le-leb, leb-false, leb-true}
 use mathlib.Core.Bool.{and-true, and-false}
 use native.Mathlib.Nat.{le-max_right}
 use lib.Bits.{bit_and, bit_or, and_le_l, and_le_r, or_add_and, or_lt, or_shr, or_mod, and_shr, and_mod}
@@ -16,6 +16,7 @@ use Rattle.machine.specs.Sound.{owner_sound, page_sound, live_sound, slot_sound}
 use Rattle.machine.specs.declared.Slot.{Slot}
 use Rattle.machine.proofs.Pages.{shift-large}
 use Rattle.machine.proofs.Sound.{Live, live-parts, dead-zero}
+use Rattle.tlb.specs.Rows.{row_slot}
 use Rattle.tlb_sound.specs.Buckets.{largest_code}
 use Rattle.tlb_sound.specs.Digests.{reach, digest_one, joined, joined_all, no_digest, digest_of, excess, fields_fit, rest, plain}
 use Rattle.tlb_sound.specs.declared.Digest.{Digest}
@@ -276,12 +277,9 @@ plain-side s t u =
     all_both (λ x. fields_fit (digest_one x)) (λ x. plain (digest_one x)) slot_sound s plain-sound (fits_all s t)
     (all-zero rest rest-joined no_digest s (eqb-true (rest (digest_of s)) 0 u)).1
 
--- ---- slot after slot
-pub joined_step : (d : Digest) (s : List Slot) (i : ℕ) → i < length s
-    → joined_all d (drop i s) ≡ joined_all (joined d (digest_one (get_or s i no_slot))) (drop (i + 1) s)
+-- ---- row after row
+pub joined_more : (d : Digest) (rows : List (List ℕ)) (row : List ℕ)
+    → joined_all d (map row_slot (rows ++ (row ∷ []))) ≡ joined (joined_all d (map row_slot rows)) (digest_one (row_slot row))
 unfolding joined_all
-joined_step d s i h = rw (add-one, drop-cons s i no_slot)
-
-pub joined_end : (d : Digest) (s : List Slot) (i : ℕ) → length s ≤ i → joined_all d (drop i s) ≡ d
-unfolding joined_all
-joined_end d s i h = rw (drop_of_length-le s)
+joined_more d [] row = refl
+joined_more d (r ∷ rows) row = joined_more (joined d (digest_one (row_slot r))) rows row

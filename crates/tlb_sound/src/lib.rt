@@ -1,18 +1,20 @@
 // Soundness of the slots of one side: document 01, "Sound means". Any number of slots.
 #![tactic(auto)]
 
-ghost use Rattle.std.specs.Prelude.{◌≡◌, ◌+◌, ◌*◌, ◌<◌, ◌≤◌, true, false, not, length, drop};
+ghost use Rattle.std.specs.Prelude.{◌≡◌, ◌+◌, ◌*◌, ◌<◌, ◌≤◌, true, false, not, length, map};
 ghost use Rattle.laws.specs.Tests.{any_of, all_of, pairwise};
 ghost use Rattle.machine.specs.Pages.{page_size};
-ghost use Rattle.machine.specs.Slots.{slots_of, slot_of, is_live, size_code};
+ghost use Rattle.machine.specs.Slots.{slots_of, is_live, size_code};
 ghost use Rattle.machine.specs.Insertion.{overlaps};
 ghost use Rattle.machine.specs.Sound.{live_sound, empty_sound, slot_sound, side_sound};
+ghost use Rattle.tlb.specs.Rows.{row_slot};
 ghost use Rattle.tlb.specs.Tables.{spans_of};
-ghost use Rattle.tlb_sound.specs.Asked.{LiveSound, SlotsSound};
+ghost use Rattle.tlb_sound.specs.Asked.{LiveSound, SlotsSound, RowsSound};
 ghost use Rattle.tlb_sound.specs.Buckets.{largest_code, block_shift, bucket_of};
 ghost use Rattle.tlb_sound.specs.Digests.{digest_one, joined, digest_of, fields_fit, plain};
 
 use machine::Slot;
+use tlb::Row;
 
 // What the slots of a side have: their owners, pages, words and flags by or, their words by and too.
 #[derive(Clone, Copy)]
@@ -28,7 +30,7 @@ struct Digest {
 fn gather(d: Digest, x: Slot) -> Digest
     ensures { result ≡ joined d (digest_one x) }
 {
-    let reach = std::num::wrapping_add_u64(x.page, 0x8000_0000_0000);
+    let reach = x.page.wrapping_add(0x8000_0000_0000);
     Digest {
         owners: d.owners | x.owner,
         pages: d.pages | reach,
@@ -42,39 +44,25 @@ fn gather(d: Digest, x: Slot) -> Digest
 fn digest_of(slots: &[u64]) -> Digest
     ensures { result ≡ digest_of (slots_of slots.now) }
 {
-    let n = slots.len() / machine::SLOT_WORDS;
-    let mut d = Digest {
+    let none = Digest {
         owners: 0,
         pages: 0,
         words: 0,
         common: u64::MAX,
         flags: 0,
     };
-    let mut i = 0;
-    while i < n {
-        d = gather(d, tlb::slot_at(slots, i));
-        i += 1;
-    }
-    d
+    tlb::rows(slots)
+        .iter()
+        .fold(none, |d, row| gather(d, tlb::slot_in(row)))
 }
 
 // Whether no slot has a bit that no sound slot has.
 fn fields_fit(d: Digest) -> bool
     ensures { result ≡ fields_fit d }
 {
-    if 0x2_0000 <= d.owners {
-        return false;
-    }
-    if 0x1_0000_0000_0000 <= d.pages {
-        return false;
-    }
-    if d.pages % 0x2000 != 0 {
-        return false;
-    }
-    if (d.words >> 40) % 0x1_0000 != 0 {
-        return false;
-    }
-    d.flags < 4
+    d.owners < 0x2_0000
+        && (d.pages < 0x1_0000_0000_0000
+            && (d.pages % 0x2000 == 0 && ((d.words >> 40) % 0x1_0000 == 0 && d.flags < 4)))
 }
 
 // Whether every slot is live and virtual and has size code 0: there is nothing more to ask of one whose fields fit.
@@ -97,7 +85,7 @@ fn live_sound(x: Slot) -> bool
 fn empty_sound(x: Slot) -> bool
     ensures { result ≡ empty_sound x }
 {
-    x.owner == 0 && (x.page == 0 && (x.word == 0 && x.flags == 0))
+    x == Slot::default()
 }
 
 // Whether a slot whose fields fit is sound by itself.
@@ -123,14 +111,10 @@ fn slots_sound(slots: &[u64], d: Digest) -> bool
     if all_plain(d) {
         return true;
     }
-    let n = slots.len() / machine::SLOT_WORDS;
-    let mut i = 0;
-    while i < n {
-        let x = tlb::slot_at(slots, i);
-        if !slot_sound(x) {
+    for row in tlb::rows(slots) {
+        if !slot_sound(tlb::slot_in(row)) {
             return false;
         }
-        i += 1;
     }
     true
 }
@@ -157,44 +141,31 @@ fn bucket(owner: u64, page: u64, shift: u64) -> usize
     ((page >> shift ^ mixed) % 1024) as usize
 }
 
-// Whether a live x overlaps slot j. Both are sound, and the spans are those of x's page size.
-fn overlaps_sound(slots: &[u64], j: usize, x: Slot, span: &[u64; 16]) -> bool
-    requires { (j * 4 + 4 ≤ length slots.now) × LiveSound x × (slot_sound (slot_of slots.now j) ≡ true)
-        × (span.now ≡ spans_of (page_size (size_code x))) }
-    ensures { result ≡ overlaps x (slot_of slots.now j) }
+// Whether a live x overlaps a slot. Both are sound, and the spans are those of x's page size.
+fn overlaps_sound(x: Slot, row: &Row, span: &[u64; 16]) -> bool
+    requires { LiveSound x × (slot_sound (row_slot row.now) ≡ true) × (span.now ≡ spans_of (page_size (size_code x))) }
+    ensures { result ≡ overlaps x (row_slot row.now) }
 {
-    let k = j * machine::SLOT_WORDS;
-    let word = slots[k + 2];
-    let code = (word % 16) as usize;
-    let distance = x.page ^ slots[k + 1];
     // page starts lie in a common page where their xor is below the larger page size; an empty slot looks like owner 0, page 0
-    distance < span[code] && (slots[k] == x.owner && word >> 63 == 1)
+    tlb::is_near(x, row, span) && tlb::is_compared(row, x.owner)
 }
 
-// Whether a live x overlaps none of the slots from the one given on. All are sound.
-fn clear_of_later(slots: &[u64], x: Slot, from: usize) -> bool
-    requires { LiveSound x × SlotsSound slots.now }
-    ensures { result ≡ not (any_of (overlaps x) (drop from (slots_of slots.now))) }
+// Whether a live x overlaps none of the later slots. All are sound.
+fn clear_of_later(later: &[Row], x: Slot) -> bool
+    requires { LiveSound x × RowsSound later.now }
+    ensures { result ≡ not (any_of (overlaps x) (map row_slot later.now)) }
 {
     let span = tlb::spans(pages::page_size(tlb::size_code(x)));
-    let n = slots.len() / machine::SLOT_WORDS;
-    let mut j = from;
-    while j < n {
-        if overlaps_sound(slots, j, x, &span) {
-            return false;
-        }
-        j += 1;
-    }
-    true
+    tlb::none_passes(later, |row| overlaps_sound(x, row, &span))
 }
 
 // The same, where a slot that has its bucket for itself is known to overlap none.
-fn shared_overlaps_none(slots: &[u64], x: Slot, from: usize, shared: bool) -> bool
-    requires { LiveSound x × SlotsSound slots.now
-        × (shared ≡ false → any_of (overlaps x) (drop from (slots_of slots.now)) ≡ false) }
-    ensures { result ≡ not (any_of (overlaps x) (drop from (slots_of slots.now))) }
+fn shared_overlaps_none(later: &[Row], x: Slot, shared: bool) -> bool
+    requires { LiveSound x × RowsSound later.now
+        × (shared ≡ false → any_of (overlaps x) (map row_slot later.now) ≡ false) }
+    ensures { result ≡ not (any_of (overlaps x) (map row_slot later.now)) }
 {
-    !shared || clear_of_later(slots, x, from)
+    !shared || clear_of_later(later, x)
 }
 
 // Whether no two of the slots, each sound by itself, overlap: from the last slot to the first. No size code is above the one given. A bucket
@@ -204,13 +175,12 @@ fn overlap_free(slots: &[u64], code: u64, seen: &mut [u8], mark: u8) -> bool
     ensures { result ≡ pairwise overlaps (slots_of slots.now) }
 {
     let most = block_shift(code);
-    let mut i = slots.len() / machine::SLOT_WORDS;
-    while 0 < i {
-        i -= 1;
-        let x = tlb::slot_at(slots, i);
+    let rows = tlb::rows(slots);
+    for i in (0..rows.len()).rev() {
+        let x = tlb::slot_in(&rows[i]);
         if tlb::is_live(x) {
             let b = bucket(x.owner, x.page, most);
-            if !shared_overlaps_none(slots, x, i + 1, seen[b] == mark) {
+            if !shared_overlaps_none(&rows[i + 1..], x, seen[b] == mark) {
                 return false;
             }
             seen[b] = mark;
@@ -225,12 +195,6 @@ pub fn side_sound(slots: &[u64], seen: &mut [u8], mark: u8) -> bool
     ensures { result ≡ side_sound (slots_of slots.now) }
 {
     let d = digest_of(slots);
-    if !slots_sound(slots, d) {
-        return false;
-    }
-    // no slot is live
-    if d.words >> 63 == 0 {
-        return true;
-    }
-    overlap_free(slots, d.words % 16, seen, mark)
+    // where no word has bit 63, no slot is live
+    slots_sound(slots, d) && (d.words >> 63 == 0 || overlap_free(slots, d.words % 16, seen, mark))
 }

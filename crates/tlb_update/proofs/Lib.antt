@@ -1,2 +1,3 @@
 pub mod Sifted
+pub mod Turns
 pub mod Walked

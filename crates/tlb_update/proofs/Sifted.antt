@@ -1,6 +1,6 @@
 -- Every slot that a removal takes passes its sieve. Assumes nothing.
 use Prim.Native.Nat.{ℕ, ◌+◌, ◌*◌, ◌/◌, ◌%◌, ◌-◌, ◌^◌, ◌≤◌, ◌<◌, max}
-use mathlib.Core.Path.{◌≡◌, refl, sym, subst}
+use mathlib.Core.Path.{◌≡◌, refl, sym}
 use mathlib.Core.Bool.{true, false, not}
 use mathlib.Core.List.{List}
 use native.Mathlib.Omega.{arith}
@@ -8,7 +8,7 @@ use native.Mathlib.Nat.{le-max_right}
 use lib.Dec.{eqb, leb}
 use lib.Bits.{bit_xor, xor_self, xor_zero_l}
 use lib.ListN.{get_or, length}
-use borrow.Author.Tests.{eqb-true, eqb-false, leb-false, le-leb}
+use borrow.Author.Tests.{eqb-true, leb-false, le-leb}
 use Rattle.laws.proofs.Bools.{by-test, clash, and_left, and_right}
 use Rattle.machine.specs.declared.Slot.{Slot}
 use Rattle.machine.specs.declared.Key.{Key}
@@ -62,18 +62,6 @@ overlapping-sifts new x _ _ h =
     let d : ℕ = bit_xor new.page x.page in
     let s : ℕ = get_or (spans_of (page_size (size_code new))) (size_code x) 0 in
     by-test (leb d s) (λ t. t) (λ n. clash h (over-far new x (omega (arith, leb-false d s n))))
-
--- one slot more that does not pass
-pub none_more : (sieve : Sieve) (l : List ℕ) (from i r : ℕ) → i * 4 + 4 ≤ length l → r ≡ i + 1 → passes sieve (slot_of l i) ≡ false
-    → NonePass sieve l from i → NonePass sieve l from r
-none_more sieve l from i r h n e w = (
-  omega (arith, n),
-  omega (arith, n),
-  λ j a b.
-      by-test (eqb i j)
-      (λ t. subst (λ (k : ℕ). passes sieve (slot_of l k) ≡ false) (eqb-true i j t) e)
-      (λ t. w.2 j a (omega (arith, b, n, eqb-false i j t))),
-)
 
 -- a removal takes none of the slots that do not pass its sieve
 pub none-taken : (which : Removal) (sieve : Sieve) (l : List ℕ) (from r : ℕ) → ((k : ℕ) → get_or l k 0 < 2 ^ 64) → Sifts which sieve → NonePass sieve l from r

@@ -6,10 +6,11 @@ ghost use Rattle.laws.specs.Tests.{tick, count, first};
 ghost use Rattle.machine.specs.Slots.{slots_of, words_of, slot_of, with_slot, on_slot, is_live, partition_of, is_locked, answers_to};
 ghost use Rattle.machine.specs.Insertion.{overlaps, emptied_by, removed, removes};
 ghost use Rattle.machine.specs.Insertion.{entry_of, candidate, wants, choice, stored, displaced_by, inserted, placed, has_slot};
+ghost use Rattle.tlb.specs.Rows.{row_slot};
 ghost use Rattle.tlb_update.specs.Sieves.{spans_for, passes, Sifts, NonePass};
 
-use laws::Found;
-use machine::{Choice, Key, Placed, Removal, Slot, Wanted};
+use machine::{Choice, Key, NoSlot, Removal, Slot, Wanted};
+use tlb::Row;
 
 // A live slot of the owner.
 fn owned_by(x: Slot, owner: u64) -> bool
@@ -19,6 +20,7 @@ fn owned_by(x: Slot, owner: u64) -> bool
 }
 
 // The entry that answers to a key, whether its slot is sound or not. What passes the sieve mostly has the page: that is asked first.
+#[tactic(auto, unfolding(machine::specs::Slots::answers_to, machine::specs::Slots::is_compared))]
 fn answers(x: Slot, key: Key) -> bool
     ensures { result ≡ answers_to key x }
 {
@@ -33,6 +35,7 @@ fn unlocked_of(x: Slot, partition: u64) -> bool
 }
 
 // Whether a removal takes the slot's entry.
+#[tactic(auto, unfolding(machine::specs::Insertion::removes))]
 fn takes(which: Removal, x: Slot) -> bool
     ensures { result ≡ removes which x }
 {
@@ -86,15 +89,13 @@ fn sieve_of(which: Removal) -> Sieve
 }
 
 // The larger of the sieve's size and each page size, by size code; a sieve of owners asks none.
+#[tactic(auto, unfolding(crate::specs::Sieves::spans_for))]
 fn spans_of(sieve: Sieve) -> [u64; 16]
     ensures { result ≡ spans_for sieve }
 {
     match sieve {
-        Sieve::Pages { page: _, size } => tlb::spans(size),
-        Sieve::Owners {
-            owner: _,
-            spread: _,
-        } => [0; 16],
+        Sieve::Pages { size, .. } => tlb::spans(size),
+        Sieve::Owners { .. } => [0; 16],
     }
 }
 
@@ -106,30 +107,21 @@ fn remove_at(slots: &mut [u64], i: usize, which: Removal) -> u64
 {
     let x = tlb::slot_at(slots, i);
     if takes(which, x) {
-        let none = Slot {
-            owner: 0,
-            page: 0,
-            word: 0,
-            flags: 0,
-        };
-        tlb::store_slot(slots, i, none);
+        tlb::store_slot(slots, i, Slot::default());
         return 1;
     }
     0
 }
 
-// Whether slot i passes the sieve; the spans are the sieve's.
-fn passes(slots: &[u64], i: usize, sieve: Sieve, span: &[u64; 16]) -> bool
-    requires { (i * 4 + 4 ≤ length slots.now) × (span.now ≡ spans_for sieve) }
-    ensures { result ≡ passes sieve (slot_of slots.now i) }
+// Whether a slot passes the sieve; the spans are the sieve's.
+#[tactic(auto, unfolding(crate::specs::Sieves::passes, crate::specs::Sieves::spans_for))]
+fn passes(row: &Row, sieve: Sieve, span: &[u64; 16]) -> bool
+    requires { span.now ≡ spans_for sieve }
+    ensures { result ≡ passes sieve (row_slot row.now) }
 {
-    let x = tlb::slot_at(slots, i);
     match sieve {
-        Sieve::Pages { page, size: _ } => {
-            let code = tlb::size_code(x) as usize;
-            page ^ x.page <= span[code]
-        }
-        Sieve::Owners { owner, spread } => owner ^ x.owner <= spread,
+        Sieve::Pages { page, .. } => page ^ row[1] <= span[(row[2] % 16) as usize],
+        Sieve::Owners { owner, spread } => owner ^ row[0] <= spread,
     }
 }
 
@@ -138,18 +130,13 @@ fn next(slots: &[u64], from: usize, sieve: Sieve, span: &[u64; 16]) -> usize
     requires { (from * 4 ≤ length slots.now) × (span.now ≡ spans_for sieve) }
     ensures { NonePass sieve slots.now from result }
 {
-    let n = slots.len() / machine::SLOT_WORDS;
-    let mut i = from;
-    while i + 3 < n {
-        if passes(slots, i, sieve, span)
-            || (passes(slots, i + 1, sieve, span)
-                || (passes(slots, i + 2, sieve, span) || passes(slots, i + 3, sieve, span)))
-        {
-            return i;
+    let turns = tlb::rows(slots)[from..].as_chunks::<4>().0;
+    for (k, turn) in turns.iter().enumerate() {
+        if !tlb::none_passes(turn, |row| passes(row, sieve, span)) {
+            return from + k * 4;
         }
-        i += 4;
     }
-    i
+    from + turns.len() * 4
 }
 
 // Empties every slot that the removal takes, and counts them.
@@ -162,6 +149,7 @@ pub fn remove(slots: &mut [u64], which: Removal) -> u64
     let span = spans_of(sieve);
     let n = slots.len() / machine::SLOT_WORDS;
     let mut taken = 0;
+    // no counted loop: `next` says up to which slot none passes
     let mut i = next(slots, 0, sieve, &span);
     while i < n {
         taken += remove_at(slots, i, which);
@@ -171,15 +159,15 @@ pub fn remove(slots: &mut [u64], which: Removal) -> u64
 }
 
 // The entry of an insertion: at the start of its page, by the word's size code, and with its used bit set.
+#[tactic(auto, unfolding(machine::specs::Insertion::entry_of))]
 pub fn new_entry(key: Key, locked: bool, word: u64) -> Slot
     ensures { result ≡ entry_of key locked word }
 {
-    let flags = if locked { 3 } else { 2 };
     Slot {
         owner: tlb::key_owner(key),
         page: pages::page_start(word % 16, tlb::key_address(key)),
-        word: word,
-        flags: flags,
+        word,
+        flags: if locked { 3 } else { 2 },
     }
 }
 
@@ -191,6 +179,7 @@ fn displaceable(old: Slot) -> bool
 }
 
 // Whether the slot is what a choice looks for.
+#[tactic(auto, unfolding(machine::specs::Insertion::wants))]
 fn wanted_slot(wanted: Wanted, x: Slot) -> bool
     ensures { result ≡ wants candidate wanted x }
 {
@@ -202,18 +191,19 @@ fn wanted_slot(wanted: Wanted, x: Slot) -> bool
 }
 
 // The lowest slot that is wanted.
-fn lowest(slots: &[u64], wanted: Wanted) -> Found
+fn lowest(slots: &[u64], wanted: Wanted) -> Option<usize>
     ensures { result ≡ first (wants candidate wanted) (slots_of slots.now) }
 {
     let n = slots.len() / machine::SLOT_WORDS;
+    // document 01 names this form: a loop that yields the chosen slot by break
     let mut i = 0;
     let found = loop {
         if i == n {
-            break Found::Nothing;
+            break None;
         }
         let x = tlb::slot_at(slots, i);
         if wanted_slot(wanted, x) {
-            break Found::At(i);
+            break Some(i);
         }
         i += 1;
     };
@@ -221,32 +211,28 @@ fn lowest(slots: &[u64], wanted: Wanted) -> Found
 }
 
 // The slot that an insertion takes.
+#[tactic(auto, unfolding(machine::specs::Insertion::choice))]
 fn choose(slots: &[u64]) -> Choice
     ensures { result ≡ choice candidate (slots_of slots.now) }
 {
-    if let Found::At(slot) = lowest(slots, Wanted::Empty) {
+    if let Some(slot) = lowest(slots, Wanted::Empty) {
         return Choice::Empty(slot);
     }
-    if let Found::At(slot) = lowest(slots, Wanted::Unused) {
+    if let Some(slot) = lowest(slots, Wanted::Unused) {
         return Choice::Unused(slot);
     }
-    let Found::At(slot) = lowest(slots, Wanted::Candidate) else {
-        return Choice::Full;
-    };
-    Choice::Cleared(slot)
+    match lowest(slots, Wanted::Candidate) {
+        Some(slot) => Choice::Cleared(slot),
+        None => Choice::Full,
+    }
 }
 
 // Whether a slot is to be had for the new entry (number 13). Nothing changes. Most sides have a candidate in a low slot, so that is asked first.
 pub fn has_slot(slots: &[u64], new: Slot) -> bool
     ensures { result ≡ has_slot candidate new (slots_of slots.now) }
 {
-    if let Found::At(_) = lowest(slots, Wanted::Candidate) {
-        return true;
-    }
-    if let Found::At(_) = lowest(slots, Wanted::Empty) {
-        return true;
-    }
-    !tlb::overlaps_none(slots, new, 0)
+    lowest(slots, Wanted::Candidate).is_some()
+        || (lowest(slots, Wanted::Empty).is_some() || !tlb::overlaps_none(slots, new, 0))
 }
 
 // Puts the new entry into slot i, and hands back what stood there.
@@ -261,7 +247,7 @@ fn displace(slots: &mut [u64], i: usize, new: Slot) -> Slot
 }
 
 // Puts the new entry into the slot chosen.
-fn place(slots: &mut [u64], new: Slot, chosen: Choice) -> Placed
+fn place(slots: &mut [u64], new: Slot, chosen: Choice) -> Result<Option<Slot>, NoSlot>
     requires { (length slots.old % 4 ≡ 0) × (chosen ≡ choice candidate (slots_of slots.old)) }
     ensures words { slots.new ≡ words_of (stored new (slots_of slots.old) chosen) }
     ensures placed { result ≡ displaced_by (slots_of slots.old) chosen }
@@ -269,20 +255,21 @@ fn place(slots: &mut [u64], new: Slot, chosen: Choice) -> Placed
     match chosen {
         Choice::Empty(i) => {
             tlb::store_slot(slots, i, new);
-            Placed::Done
+            Ok(None)
         }
-        Choice::Unused(i) => Placed::Displaced(displace(slots, i, new)),
+        Choice::Unused(i) => Ok(Some(displace(slots, i, new))),
         Choice::Cleared(i) => {
             let old = tlb::slot_at(slots, i);
             tlb::clear_used(slots);
             tlb::store_slot(slots, i, new);
-            Placed::Displaced(old)
+            Ok(Some(old))
         }
-        Choice::Full => Placed::Refused,
+        Choice::Full => Err(NoSlot),
     }
 }
 
 // Removes what the new entry overlaps. Most insertions overlap nothing, and the test is faster than the removal.
+#[tactic(auto, unfolding(machine::specs::Insertion::removes))]
 fn make_way(slots: &mut [u64], new: Slot)
     requires { length slots.old % 4 ≡ 0 }
     ensures { slots.new ≡ words_of (removed (overlaps new) (slots_of slots.old)) }
@@ -293,7 +280,7 @@ fn make_way(slots: &mut [u64], new: Slot)
 }
 
 // Removes what the new entry overlaps, and puts it into the slot that is then chosen.
-pub fn insert(slots: &mut [u64], new: Slot) -> Placed
+pub fn insert(slots: &mut [u64], new: Slot) -> Result<Option<Slot>, NoSlot>
     requires { length slots.old % 4 ≡ 0 }
     ensures words { slots.new ≡ words_of (inserted candidate new (slots_of slots.old)) }
     ensures placed { result ≡ placed candidate new (slots_of slots.old) }

@@ -6,7 +6,12 @@ ghost use Rattle.machine.specs.Words.{bits};
 ghost use Rattle.machine.specs.Registers.{tag_access, tag_address};
 ghost use Rattle.machine.specs.State.{state_in};
 ghost use Rattle.machine.specs.Tsb.{tsb_offset, tsb_pointer, miss_context, tsb_base, tsb_code, pointer};
-ghost use Rattle.state.specs.Calls.{Lent};
+
+use machine::{Below, Side, Strand};
+use state::State;
+
+// Which of the two page sizes of a configuration: 0 is ps0, 1 is ps1.
+pub type PageSize = Below<2>;
 
 // How many entries a TSB has.
 pub fn tsb_entries(n: u64) -> u64
@@ -45,52 +50,46 @@ pub fn other_set(context: u64) -> u8
 }
 
 // A configuration's size code.
-fn size_code(configuration: u64, size: u8) -> u64
-    requires { size < 2 }
+fn size_code(configuration: u64, size: PageSize) -> u64
     ensures { result ≡ bits (8 * size) 3 configuration }
 {
-    if size == 0 {
+    if size.number() == 0 {
         return configuration % 8;
     }
     (configuration >> 8) % 8
 }
 
 // A miss, from the side's tag access: its context, its address, and the base and the size code that the context picks. Size 0 is ps0, 1 is ps1.
-pub fn miss_context(state: &[u64], strand: u8, side: u8) -> u64
-    requires { Lent state.now × (strand < 4) × (side < 2) }
+pub fn miss_context(state: &State, strand: Strand, side: Side) -> u64
     ensures { result ≡ miss_context (state_in state.now).registers strand side }
 {
     operands::tag_context(operands::tag_of(state, strand, side))
 }
 
-pub fn miss_address(state: &[u64], strand: u8, side: u8) -> u64
-    requires { Lent state.now × (strand < 4) × (side < 2) }
+pub fn miss_address(state: &State, strand: Strand, side: Side) -> u64
     ensures { result ≡ (tag_address (tag_access (state_in state.now).registers strand side)).0 }
 {
     operands::tag_address(operands::tag_of(state, strand, side)).0
 }
 
-pub fn tsb_base(state: &[u64], strand: u8, side: u8, size: u8) -> u64
-    requires { Lent state.now × (strand < 4) × (side < 2) × (size < 2) }
+pub fn tsb_base(state: &State, strand: Strand, side: Side, size: PageSize) -> u64
     ensures { result ≡ tsb_base (state_in state.now).registers strand side size }
 {
     let other = other_set(miss_context(state, strand, side));
-    let number = machine::TSB_BASE + 4 * side + 2 * other + size;
+    let number = machine::TSB_BASE + 4 * side.number() + 2 * other + size.number();
     state::read_register(state, strand, number)
 }
 
-pub fn tsb_code(state: &[u64], strand: u8, side: u8, size: u8) -> u64
-    requires { Lent state.now × (strand < 4) × (side < 2) × (size < 2) }
+pub fn tsb_code(state: &State, strand: Strand, side: Side, size: PageSize) -> u64
     ensures { result ≡ tsb_code (state_in state.now).registers strand side size }
 {
     let other = other_set(miss_context(state, strand, side));
-    let number = machine::TSB_CONFIGURATION + 2 * side + other;
+    let number = machine::TSB_CONFIGURATION + 2 * side.number() + other;
     size_code(state::read_register(state, strand, number), size)
 }
 
 // A side's pointer.
-pub fn pointer_of(state: &[u64], strand: u8, side: u8, size: u8) -> u64
-    requires { Lent state.now × (strand < 4) × (side < 2) × (size < 2) }
+pub fn pointer_of(state: &State, strand: Strand, side: Side, size: PageSize) -> u64
     ensures { result ≡ pointer (state_in state.now).registers strand side size }
 {
     let base = tsb_base(state, strand, side, size);

@@ -1,31 +1,47 @@
 // Entry words (sun4v TTEs): document 01, "Addresses and entry words".
 #![tactic(auto)]
 
-ghost use Rattle.std.specs.Prelude.{◌≡◌, true, ◌%◌, ◌^◌, ◌<◌};
+ghost use Rattle.std.specs.Prelude.{◌≡◌, true, ◌+◌, ◌*◌, ◌%◌, ◌^◌, ◌≤◌, ◌<◌};
 ghost use Rattle.machine.specs.Words.{bits, unpacked, packed, fields, word_sound, word_insertable, frame, physical_by};
 
 use machine::{PhysicalAddress, Reach, Tte};
 
-// All fields of an entry word. Packed again they are the word.
+// So many bits of a word, from the bit given up.
+fn bits(word: u64, from: u32, width: u32) -> u64
+    requires { (from < 64) × (width < 64) }
+    ensures { result ≡ bits from width word }
+{
+    (word >> from) % (1 << width)
+}
+
+// All fields of an entry word. Packed again they are the word. No `From`: neither `Tte` nor `u64` is a type of this crate.
 pub fn unpack(word: u64) -> Tte
     ensures fields { result ≡ unpacked word }
     ensures again { packed result ≡ word }
 {
     Tte {
-        v: (word >> 63) % 2,
-        nfo: (word >> 62) % 2,
-        soft2: (word >> 56) % 64,
-        address: (word >> 13) % 0x800_0000_0000,
-        ie: (word >> 12) % 2,
-        e: (word >> 11) % 2,
-        cp: (word >> 10) % 2,
-        cv: (word >> 9) % 2,
-        p: (word >> 8) % 2,
-        ep: (word >> 7) % 2,
-        w: (word >> 6) % 2,
-        soft: (word >> 4) % 4,
-        size: word % 16,
+        v: bits(word, 63, 1),
+        nfo: bits(word, 62, 1),
+        soft2: bits(word, 56, 6),
+        address: bits(word, 13, 43),
+        ie: bits(word, 12, 1),
+        e: bits(word, 11, 1),
+        cp: bits(word, 10, 1),
+        cv: bits(word, 9, 1),
+        p: bits(word, 8, 1),
+        ep: bits(word, 7, 1),
+        w: bits(word, 6, 1),
+        soft: bits(word, 4, 2),
+        size: size_code(word),
     }
+}
+
+// So many bits of a field, from the bit given up.
+fn placed(field: u64, from: u32, width: u32) -> u64
+    requires { (from + width ≤ 64) × (from < 64) × (width < 64) }
+    ensures { result ≡ field % 2 ^ width * 2 ^ from }
+{
+    (field % (1 << width)) << from
 }
 
 // The entry word of the fields. Where each fits its width, unpacked again they are the fields.
@@ -33,13 +49,19 @@ pub fn pack(t: Tte) -> u64
     ensures word { result ≡ packed t }
     ensures again { fields t ≡ true → unpacked result ≡ t }
 {
-    let from_13 = (t.v % 2) << 63
-        | (t.nfo % 2) << 62
-        | (t.soft2 % 64) << 56
-        | (t.address % 0x800_0000_0000) << 13;
-    let from_9 = from_13 | (t.ie % 2) << 12 | (t.e % 2) << 11 | (t.cp % 2) << 10 | (t.cv % 2) << 9;
-    let from_6 = from_9 | (t.p % 2) << 8 | (t.ep % 2) << 7 | (t.w % 2) << 6;
-    from_6 | (t.soft % 4) << 4 | t.size % 16
+    placed(t.v, 63, 1)
+        | placed(t.nfo, 62, 1)
+        | placed(t.soft2, 56, 6)
+        | placed(t.address, 13, 43)
+        | placed(t.ie, 12, 1)
+        | placed(t.e, 11, 1)
+        | placed(t.cp, 10, 1)
+        | placed(t.cv, 9, 1)
+        | placed(t.p, 8, 1)
+        | placed(t.ep, 7, 1)
+        | placed(t.w, 6, 1)
+        | placed(t.soft, 4, 2)
+        | placed(t.size, 0, 4)
 }
 
 // Bits 3:0 of a word.
@@ -49,18 +71,12 @@ fn size_code(word: u64) -> u64
     word % 16
 }
 
-// Bits 55:13 of a word, a physical address from bit 13 up.
-fn address_field(word: u64) -> u64
-    ensures { result ≡ bits 13 43 word }
-{
-    (word >> 13) % 0x800_0000_0000
-}
-
 // A word that a live entry may have (number 12): v set, a size code that has a page, an address below 2^40.
+#[tactic(auto, unfolding(machine::specs::Words::word_sound))]
 fn word_sound(word: u64) -> bool
     ensures { result ≡ word_sound word }
 {
-    word >> 63 == 1 && (pages::code_listed(size_code(word)) && (word >> 40) % 0x1_0000 == 0)
+    word >> 63 == 1 && (pages::code_listed(size_code(word)) && bits(word, 40, 16) == 0)
 }
 
 // A word that an insertion takes.
@@ -75,7 +91,7 @@ pub fn word_insertable(word: u64) -> bool
 fn page_frame(word: u64) -> PhysicalAddress
     ensures { result ≡ frame word }
 {
-    PhysicalAddress(pages::page_start(size_code(word), address_field(word) << 13))
+    PhysicalAddress(pages::page_start(size_code(word), bits(word, 13, 43) << 13))
 }
 
 // The physical address at the offset of a match, which lies in the word's page.

@@ -1,11 +1,11 @@
 -- An answer's three words as bytes, and the stores that write them. Assumes nothing.
-use Prim.Native.Nat.{ℕ, suc, ◌+◌, ◌-◌, ◌/◌, ◌%◌, ◌^◌, ◌≤◌, ◌<◌}
-use mathlib.Core.List.{[], ◌∷◌, ◌++◌}
-use mathlib.Core.Path.{◌≡◌, refl, ap, ◌∙◌}
+use Prim.Native.Nat.{ℕ, ◌+◌, ◌%◌, ◌≤◌, ◌<◌}
+use mathlib.Core.List.{[], ◌∷◌, ◌++◌, append_assoc}
+use mathlib.Core.Path.{◌≡◌, refl, ap, sym, ◌∙◌}
 use native.Mathlib.Omega.{arith}
-use native.Mathlib.Numerals.{towards_suc, add-one}
-use lib.ListN.{set, replicate}
-use lib.Seq.{sets}
+use lib.ListN.{length}
+use lib.Seq.{drop-drop, sets, sets-eq}
+use borrow.Rule.Slice.PartMut.{put_mid}
 use Rattle.laws.proofs.Stores.{sets-append}
 use Rattle.machine.specs.Stream.{Bytes, bytes, fields_of, answer_bytes}
 use Rattle.machine.specs.declared.Answer.{Answer}
@@ -13,20 +13,9 @@ use Rattle.machine.specs.declared.Answer.TheVariants as answer
 use Rattle.wire.specs.Wire.{head_of, answer_words}
 use Rattle.wire.specs.declared.AnswerWords.{AnswerWords}
 
--- the eight stores of a value, as the code has them
-pub value-stores : (l : Bytes) (i v : ℕ) →
-    set (set (set (set (set (set (set (set l i (v / 2 ^ 56 % 256)) (i + 1) (v / 2 ^ 48 % 256)) (i + 2) (v / 2 ^ 40 % 256)) (i + 3) (v / 2 ^ 32 % 256))
-    (i + 4) (v / 2 ^ 24 % 256)) (i + 5) (v / 2 ^ 16 % 256)) (i + 6) (v / 2 ^ 8 % 256)) (i + 7) (v % 256)
-    ≡ sets l i (bytes v)
-value-stores l i v = simp towards_suc
-
--- zeros stored from a position up to an end: one more, and no more
-module _ (l : Bytes) (i end : ℕ) where
-  pub zeros-more : i < end → sets l i (replicate (end - i) 0) ≡ sets (set l i 0) (i + 1) (replicate (end - (i + 1)) 0)
-  zeros-more h = let e : end - i ≡ suc (end - (i + 1)) = omega arith in rw (e, add-one)
-
-  pub zeros-end : end ≤ i → sets l i (replicate (end - i) 0) ≡ l
-  zeros-end h = let e : end - i ≡ 0 = omega arith in rw e
+-- bytes put over a part of as many are stores from where it starts
+pub part-sets : (l vs ws : Bytes) (i k : ℕ) → ws ≡ vs → k ≡ length vs → i + k ≤ length l → put_mid i k l ws ≡ sets l i vs
+part-sets l vs ws i k e n h = rw (e, n, drop-drop, ← append_assoc) (sym (sets-eq vs l i (omega arith)))
 
 -- two lists are equal where their heads and their tails are
 both : {x y : ℕ} {l m : Bytes} → x ≡ y → l ≡ m → (x ∷ l) ≡ (y ∷ m)

@@ -1,16 +1,19 @@
 -- The command at a position: read at the front of the rest, told by its width, and which bytes begin which. Assumes nothing.
-use Prim.Native.Nat.{ℕ, ◌+◌, ◌*◌, ◌-◌, ◌≤◌}
+use Rattle.std.proofs.Common.{Ok, Err}
+use Prim.Native.Nat.{ℕ, ◌+◌, ◌*◌, ◌-◌, ◌^◌, ◌≤◌, ◌<◌}
 use mathlib.Core.Bool.{Bool, true, false, cond}
-use mathlib.Core.Path.{◌≡◌, sym, ◌∙◌}
+use mathlib.Core.Path.{◌≡◌, refl, sym, ◌∙◌}
 use native.Mathlib.Nat.{add-zero, add_assoc, sub-zero}
 use native.Mathlib.Omega.{arith}
 use borrow.Author.Tests.{ne_eqb}
 use lib.Dec.{T, eqb, leb, ltb, lit≤}
-use lib.ListN.{length, drop, length-drop, drop_of_length-le}
+use lib.ListN.{length, take, drop, length-drop, drop_of_length-le}
 use lib.Seq.{get_or-drop}
-use Rattle.machine.specs.Stream.{Bytes, byte, four, eight, width_of, command_at, decode_at}
-use Rattle.machine.specs.declared.Decoded.TheVariants.{Known, Stop}
+use Rattle.std.specs.Int.{w64, from_be_bytes}
+use Rattle.std.proofs.lemmas.List.{get_or-take}
+use Rattle.machine.specs.Stream.{Bytes, byte, eight, width_of, command_at, decode_at}
 use Rattle.wire.specs.Wire.{Whole}
+use Rattle.machine.specs.declared.Stop.TheVariants.{NoCommand, Truncated}
 
 -- a command is read where it stands as at the front of the rest
 pub decode-rest : (s : Bytes) (at : ℕ) → decode_at (drop at s) 0 ≡ decode_at s at
@@ -18,13 +21,19 @@ unfolding decode_at command_at eight
 decode-rest s at = simp (get_or-drop, length-drop, add-zero, add_assoc, sub-zero)
 
 -- past the end there is none
-pub decode-past : (s : Bytes) (at : ℕ) → length s ≤ at → decode_at s at ≡ Stop 2
+pub decode-past : (s : Bytes) (at : ℕ) → length s ≤ at → decode_at s at ≡ Err NoCommand
 unfolding decode_at width_of
 decode-past s at h = sym (decode-rest s at) ∙ rw (drop_of_length-le s)
 
--- four bytes, each at its place
-pub four-sum : (s : Bytes) (i : ℕ) → four s i ≡ byte s i * 16777216 + byte s (i + 1) * 65536 + byte s (i + 2) * 256 + byte s (i + 3)
-four-sum s i = let e : i + 2 + 1 ≡ i + 3 = omega arith in rw e (omega arith)
+-- the eight bytes at a position, big-endian
+pub part-eight : (s ys : Bytes) (at : ℕ) → ys ≡ take (at + 8 - at) (drop at s) → from_be_bytes w64 ys ≡ eight s at
+unfolding eight
+part-eight s ys at e =
+    let sum : from_be_bytes w64 ys
+    ≡ byte ys 0 * 2 ^ 56 + byte ys 1 * 2 ^ 48 + byte ys 2 * 2 ^ 40 + byte ys 3 * 2 ^ 32 + byte ys 4 * 2 ^ 24 + byte ys 5 * 2 ^ 16 + byte ys 6 * 2 ^ 8 + byte ys 7 =
+    refl in
+    let there : (i : ℕ) → i < 8 → byte ys i ≡ byte s (at + i) = λ i h. rw e (get_or-take (at + 8 - at) _ i 0 (omega arith) ∙ get_or-drop at s i 0) in
+    sum ∙ simp add_assoc (omega (arith, rw add-zero at (there 0), there 1, there 2, there 3, there 4, there 5, there 6, there 7))
 
 -- a byte that is known tells how far the bytes reach
 pub reach : {s : Bytes} {k : ℕ} → byte s 0 ≡ k → Whole s → width_of k ≤ length s
@@ -55,6 +64,6 @@ no_other b n4 n5 n8 n9 n10 n6 =
 
 -- by the width that the byte at a position tells
 pub decode-told : (s : Bytes) (at width : ℕ) → width ≡ width_of (byte s at)
-    → decode_at s at ≡ cond (eqb width 0) (Stop 2) (cond (ltb (length s - at) width) (Stop 3) (Known (command_at s at) width))
+    → decode_at s at ≡ cond (eqb width 0) (Err NoCommand) (cond (ltb (length s - at) width) (Err Truncated) (Ok (command_at s at, width)))
 unfolding decode_at
 decode-told s at width e = rw e

@@ -1,11 +1,12 @@
 -- What the code reads and writes on the way to `decode_at` and `answer_bytes`: bytes that hold a command, the number of a stop, and an answer
 -- as three words.
 -- Assumes nothing.
-use Rattle.std.specs.Prelude.{ℕ, ◌+◌, ◌*◌, ◌%◌, ◌^◌, ◌≤◌, length}
-use Rattle.machine.specs.Stream.{Bytes, byte, width_of, Fields}
-use Rattle.machine.specs.declared.Decoded.{Decoded}
-use Rattle.machine.specs.declared.Decoded.TheVariants.{Known, Stop}
+use Rattle.std.specs.Prelude.{ℕ, ◌+◌, ◌*◌, ◌%◌, ◌^◌, ◌≤◌, length, Ok, Err, Result}
+use Rattle.machine.specs.Stream.{Bytes, byte, width_of, stop_number, Fields}
 use Rattle.wire.specs.declared.AnswerWords.{AnswerWords}
+use Rattle.machine.specs.declared.Stop.{Stop}
+use Rattle.machine.specs.declared.Command.{Command}
+use Rattle.machine.specs.declared.Stop.TheVariants.{NoRoom}
 
 -- ---- commands
 -- bytes that begin with a command, all of it there
@@ -14,14 +15,14 @@ pub record Whole (s : Bytes) : Type 0 where
   pub there : width_of (byte s 0) ≤ length s
 
 -- the number of a decode answer that ends the run
-abbrev pub stop_of : Decoded → ℕ
-stop_of (Stop number) = number
-stop_of (Known command width) = 0
+abbrev pub stop_of : Result (Command × ℕ) Stop → ℕ
+stop_of (Ok _) = 0
+stop_of (Err stop) = stop_number stop
 
--- the same where there is no room for an answer: number 4 for a command
-abbrev pub full_stop_of : Decoded → ℕ
-full_stop_of (Stop number) = number
-full_stop_of (Known command width) = 4
+-- why a run ends at a position where there is no room for an answer: by what stands there, or for want of room where it is a command
+abbrev pub full_stop_of : Result (Command × ℕ) Stop → Stop
+full_stop_of (Err k) = k
+full_stop_of (Ok _) = NoRoom
 
 -- ---- answers
 -- kind, a, b, c and four zeros, as one word

@@ -3,37 +3,20 @@
 
 ghost use Rattle.std.specs.Prelude.{◌≡◌, ◌+◌, ◌<◌, ◌≤◌, length};
 ghost use Rattle.std.proofs.lemmas.List.Edits.{sets};
-ghost use Rattle.laws.specs.Tests.{tick};
-ghost use Rattle.machine.specs.Stream.{byte as byte_of, four, eight, width_of, command_at, decode_at, bytes, fields_of, answer_bytes};
+ghost use Rattle.machine.specs.Stream.{byte as byte_of, eight, width_of, command_at, decode_at, bytes, fields_of, answer_bytes};
 ghost use Rattle.machine.specs.declared.Answer.TheVariants.{Trap as TrapAnswer};
 ghost use Rattle.wire.specs.Wire.{Whole, stop_of, full_stop_of, head_of, answer_words};
 
-use machine::{Answer, Command, Decoded, Trapped, VirtualAddress};
+use machine::{Answer, Command, Stop, Trapped, VirtualAddress};
 
 // ---- commands
 
-fn wide(x: u8) -> u64
-    ensures value { result ≡ x }
-    ensures small { result < 256 }
-{
-    x as u64
-}
-
-// Four and eight bytes from a position, big-endian. The compiler makes one load of the eight.
-fn four_bytes(s: &[u8], at: usize) -> u64
-    requires { at + 4 ≤ length s.now }
-    ensures value { result ≡ four s.now at }
-    ensures small { result < 4294967296 }
-{
-    let front = wide(s[at]) * 0x100_0000 + wide(s[at + 1]) * 0x1_0000;
-    front + wide(s[at + 2]) * 0x100 + wide(s[at + 3])
-}
-
+// Eight bytes from a position, big-endian.
 pub fn eight_bytes(s: &[u8], at: usize) -> u64
     requires { at + 8 ≤ length s.now }
     ensures { result ≡ eight s.now at }
 {
-    four_bytes(s, at) * 0x1_0000_0000 + four_bytes(s, at + 4)
+    u64::from_be_bytes(*s[at..at + 8].as_array().unwrap())
 }
 
 // The width of a command in bytes, its own byte included; 0 where the byte is no command's.
@@ -124,26 +107,26 @@ fn known_command(rest: &[u8]) -> Command
 }
 
 // The command at the front of the rest; number 2 where its byte is no command's, number 3 where its width runs past the end.
-fn decode_first(rest: &[u8]) -> Decoded
+fn decode_first(rest: &[u8]) -> Result<(Command, usize), Stop>
     requires { 0 < length rest.now }
     ensures { result ≡ decode_at rest.now 0 }
 {
     let width = command_width(rest[0]);
     if width == 0 {
-        return Decoded::Stop(2);
+        return Err(Stop::NoCommand);
     }
     if rest.len() < width {
-        return Decoded::Stop(3);
+        return Err(Stop::Truncated);
     }
-    Decoded::Known(known_command(rest), width)
+    Ok((known_command(rest), width))
 }
 
 // What stands at a position of the stream. Past the end there is no byte, and so none of a command.
-fn decode(input: &[u8], at: usize) -> Decoded
+fn decode(input: &[u8], at: usize) -> Result<(Command, usize), Stop>
     ensures { result ≡ decode_at input.now at }
 {
     if input.len() <= at {
-        return Decoded::Stop(2);
+        return Err(Stop::NoCommand);
     }
     decode_first(&input[at..])
 }
@@ -156,71 +139,70 @@ pub struct Reader<'a> {
 }
 
 // What stands where the reader is.
-pub fn next_command<'a>(reader: Reader<'a>) -> Decoded
+pub fn next_command<'a>(reader: Reader<'a>) -> Result<(Command, usize), Stop>
     ensures { result ≡ decode_at reader.entry.input.now reader.entry.at }
 {
     decode(reader.input, reader.at)
 }
 
 // The same of bytes and a position: a reader is made and asked.
-pub fn command_at(input: &[u8], at: usize) -> Decoded
+pub fn command_at(input: &[u8], at: usize) -> Result<(Command, usize), Stop>
     ensures { result ≡ decode_at input.now at }
 {
     next_command(Reader { input, at })
 }
 
 // The number of a decode answer that ends the run.
-pub fn stop_number(decoded: Decoded) -> u8
+pub fn stop_number(decoded: Result<(Command, usize), Stop>) -> u8
     ensures { result ≡ stop_of decoded }
 {
     match decoded {
-        Decoded::Stop(number) => number,
-        Decoded::Known(_, _) => 0,
+        Ok(_) => 0,
+        Err(stop) => numbers::stop_number(stop),
     }
 }
 
-// The same where there is no room for an answer: number 4 for a command.
-pub fn stop_without_room(input: &[u8], at: usize) -> u8
+// Why a run ends at a position where there is no room for an answer.
+pub fn stop_without_room(input: &[u8], at: usize) -> Stop
     ensures { result ≡ full_stop_of (decode_at input.now at) }
 {
     if at >= input.len() {
-        return 2;
+        return Stop::NoCommand;
     }
     let width = command_width(input[at]);
     if width == 0 {
-        return 2;
+        return Stop::NoCommand;
     }
     if input.len() - at < width {
-        return 3;
+        return Stop::Truncated;
     }
-    4
+    Stop::NoRoom
 }
 
 // ---- answers
 
 // The bytes of an answer as three words, big-endian.
-#[derive(Clone, Copy)]
+#[derive(Clone, Copy, Default)]
 pub struct AnswerWords {
     pub head: u64,
     pub first: u64,
     pub second: u64,
 }
 
-fn bit(set: bool) -> u64
-    ensures { result ≡ tick set }
-{
-    if set { 1 } else { 0 }
-}
-
 // Kind, a, b, c and four zeros as one word; of a, b and c the low byte.
-fn head_word(kind: u64, a: u64, b: u64, c: u64) -> u64
-    requires { kind < 256 }
+fn head_word(kind: u8, a: u64, b: u64, c: u64) -> u64
     ensures { result ≡ head_of kind a b c }
 {
-    kind * 0x0100_0000_0000_0000
-        + a % 256 * 0x0001_0000_0000_0000
-        + b % 256 * 0x0000_0100_0000_0000
-        + c % 256 * 0x0000_0001_0000_0000
+    u64::from_be_bytes([
+        kind,
+        (a % 256) as u8,
+        (b % 256) as u8,
+        (c % 256) as u8,
+        0,
+        0,
+        0,
+        0,
+    ])
 }
 
 // An answer as its words.
@@ -256,66 +238,31 @@ fn words_of(answer: Answer) -> AnswerWords
             second,
         },
         Answer::Displaced(d) => AnswerWords {
-            head: head_word(4, 0, d.partition, bit(d.real)),
+            head: head_word(4, 0, d.partition, u64::from(d.real)),
             first: d.place,
             second: d.word,
         },
         Answer::Refused(refusal) => AnswerWords {
             head: head_word(5, numbers::refusal_number(refusal), 0, 0),
-            first: 0,
-            second: 0,
+            ..AnswerWords::default()
         },
         Answer::NotInTable => AnswerWords {
             head: head_word(6, 0, 0, 0),
-            first: 0,
-            second: 0,
+            ..AnswerWords::default()
         },
         Answer::Unsound => AnswerWords {
             head: head_word(5, 1, 0, 0),
-            first: 0,
-            second: 0,
+            ..AnswerWords::default()
         },
-    }
-}
-
-// Eight zero bytes from a position.
-fn put_zeros(output: &mut [u8], at: usize)
-    requires { at + 8 ≤ length output.old }
-    ensures { output.new ≡ sets output.old at (bytes 0) }
-{
-    let end = at + 8;
-    let mut i = at;
-    while i < end {
-        output[i] = 0;
-        i += 1;
     }
 }
 
 // The eight bytes of a value from a position, big-endian.
-fn put_value(output: &mut [u8], at: usize, v: u64)
-    requires { at + 8 ≤ length output.old }
-    ensures { output.new ≡ sets output.old at (bytes v) }
-{
-    output[at] = ((v >> 56) % 256) as u8;
-    output[at + 1] = ((v >> 48) % 256) as u8;
-    output[at + 2] = ((v >> 40) % 256) as u8;
-    output[at + 3] = ((v >> 32) % 256) as u8;
-    output[at + 4] = ((v >> 24) % 256) as u8;
-    output[at + 5] = ((v >> 16) % 256) as u8;
-    output[at + 6] = ((v >> 8) % 256) as u8;
-    output[at + 7] = (v % 256) as u8;
-}
-
-// The same. With zero told apart, the compiler makes one store of each value in place of eight.
 fn put_eight(output: &mut [u8], at: usize, v: u64)
     requires { at + 8 ≤ length output.old }
     ensures { output.new ≡ sets output.old at (bytes v) }
 {
-    if v == 0 {
-        put_zeros(output, at);
-    } else {
-        put_value(output, at, v);
-    }
+    output[at..at + 8].copy_from_slice(&v.to_be_bytes());
 }
 
 // The 24 bytes of an answer.

@@ -5,15 +5,12 @@ use Rattle.machine.proofs.State.{encode-state, sound-registers}
 use Rattle.access.proofs.access_to.Goals as goal
 
 pub prepare_access-prepared-requires : goal.prepare_access-prepared-requires
-prepare_access-prepared-requires c = (c.requires.0, c.requires.1, c.requires.2, sound-registers counts _ c.requires.3)
+prepare_access-prepared-requires c = (c.requires.0, sound-registers counts _ c.requires.1)
 
 pub take_trap-requires : goal.take_trap-requires
 take_trap-requires c =
     let fits = rw c.in-Stopped.is at c.prepare_access-prepared.ensures.fits in
-    (c.requires.0, c.requires.1, fits.0, fits.1)
-
-pub look_up-requires : goal.look_up-requires
-look_up-requires c = (c.requires.0, c.requires.1, c.requires.3)
+    fits
 
 pub returns-in-Stopped : goal.returns-in-Stopped
 returns-in-Stopped c = rw (sym c.prepare_access-prepared.ensures.prepared ∙ c.in-Stopped.is) c.take_trap.ensures
@@ -21,7 +18,7 @@ returns-in-Stopped c = rw (sym c.prepare_access-prepared.ensures.prepared ∙ c.
 pub returns-in-Bypass : goal.returns-in-Bypass
 returns-in-Bypass c =
     rw (sym c.prepare_access-prepared.ensures.prepared ∙ c.in-Bypass.is)
-    (record { words = sym (encode-state counts c.args.state.now c.requires.0); answer = refl })
+    (record { words = sym (encode-state counts c.args.state.now c.told-state); answer = refl })
 
 pub returns-in-Lookup : goal.returns-in-Lookup
 returns-in-Lookup c = rw (sym c.prepare_access-prepared.ensures.prepared ∙ c.in-Lookup.is) c.look_up.ensures

@@ -8,7 +8,7 @@ pub returns-then-fault-ne0 : goal.returns-then-fault-ne0
 unfolding judge
 returns-then-fault-ne0 c =
     record {
-      judged = rw (← c.read_register.ensures, ← c.fault_of-fault.ensures.fault, ne_eqb _ _ c.if-fault-ne0.true, c.exception_of.ensures.trap);
+      judged = rw (← c.read_register.ensures.read, ← c.fault_of-fault.ensures.fault, ne_eqb _ _ c.if-fault-ne0.true, c.exception_of.ensures.trap);
       fits = omega (arith, c.exception_of.ensures.fault, c.fault_of-fault.ensures.small);
     }
 
@@ -17,7 +17,7 @@ unfolding judge
 returns-then-is_write_denied c =
     record {
       judged = rw (
-        ← c.read_register.ensures,
+        ← c.read_register.ensures.read,
         ← c.fault_of-fault.ensures.fault,
         eq-eqb _ _ c.if-fault-ne0.false,
         ← c.is_write_denied.ensures,
@@ -31,7 +31,7 @@ unfolding judge
 returns c =
     record {
       judged = rw (
-        ← c.read_register.ensures,
+        ← c.read_register.ensures.read,
         ← c.fault_of-fault.ensures.fault,
         eq-eqb _ _ c.if-fault-ne0.false,
         ← c.is_write_denied.ensures,

@@ -10,11 +10,11 @@ use Rattle.access.proofs.key_of_access.Goals as goal
 
 pub returns : goal.returns
 returns c =
-    let a = c.args.a in
+    let a = c.args.a.now in
     let file = (state_in c.args.state.now).registers in
-    let sound = strand-sound file a.strand c.requires.2 c.requires.1.strands in
+    let sound = strand-sound file a.strand c.requires c.translation_on-on.ensures.small in
     let e : c.key_for.result ≡ lookup_key file a =
-    c.key_for.ensures ∙ rw (c.translation_on-on.ensures, c.read_register-partition.ensures, c.selected_context-context.ensures) in record {
+    c.key_for.ensures ∙ rw (c.translation_on-on.ensures.on, c.read_register-partition.ensures.read, c.selected_context-context.ensures) in record {
       key = e;
       fits = rw e (key_fits (partition file a.strand) (not (translates file a.strand a.side)) (selected file a.strand a.selector) a.used
           sound.partitions (sound.contexts a.selector));

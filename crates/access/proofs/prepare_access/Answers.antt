@@ -19,7 +19,7 @@ returns-then-is_user_nucleus c =
       prepared = rw (
         ← c.aligned.ensures,
         c.if-not-aligned.false,
-        ← c.read_register-mode.ensures,
+        ← c.read_register-mode.ensures.read,
         ← c.is_user_nucleus.ensures,
         c.if-is_user_nucleus.true,
       );
@@ -33,7 +33,7 @@ returns-then-mode-eq-HYPERPRIVILEGED c =
       prepared = rw (
         ← c.aligned.ensures,
         c.if-not-aligned.false,
-        ← c.read_register-mode.ensures,
+        ← c.read_register-mode.ensures.read,
         ← c.is_user_nucleus.ensures,
         c.if-is_user_nucleus.false,
         eq-eqb _ _ c.if-mode-eq-HYPERPRIVILEGED.true,
@@ -49,7 +49,7 @@ returns-then-not-in_range c =
       prepared = rw (
         ← c.aligned.ensures,
         c.if-not-aligned.false,
-        ← c.read_register-mode.ensures,
+        ← c.read_register-mode.ensures.read,
         ← c.is_user_nucleus.ensures,
         c.if-is_user_nucleus.false,
         ne_eqb c.read_register-mode.result 2 (λ e. omega arith),
@@ -68,7 +68,7 @@ returns c =
       prepared = rw (
         ← c.aligned.ensures,
         c.if-not-aligned.false,
-        ← c.read_register-mode.ensures,
+        ← c.read_register-mode.ensures.read,
         ← c.is_user_nucleus.ensures,
         c.if-is_user_nucleus.false,
         ne_eqb c.read_register-mode.result 2 (λ e. omega arith),

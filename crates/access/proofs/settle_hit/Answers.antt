@@ -2,13 +2,12 @@
 use Prim.Native.Nat.{ℕ}
 use mathlib.Core.List.{List}
 use mathlib.Core.Path.{◌≡◌, sym, ◌∙◌}
-use native.Mathlib.Omega.{arith}
 use lib.ListN.{length-set, get_or}
 use Rattle.machine.specs.Access.{judge}
 use Rattle.machine.specs.Slots.{no_slot, key_address, within, page_match, set_used}
 use Rattle.machine.specs.State.{counts, State, state_in, side_of, with_side, encode}
 use Rattle.machine.specs.declared.Slot.{Slot}
-use Rattle.state.specs.Calls.{Lent}
+use Rattle.state.proofs.Lent.{Lent}
 use Rattle.state.proofs.Parts.{sized-words, sized-side, sized-with_side}
 use Rattle.access.proofs.Laws.{left_back}
 use Rattle.access.proofs.settle_hit.Goals as goal
@@ -24,18 +23,18 @@ marked words side i h e =
     left_back (sized-with_side counts u z side _ l) e
 
 pub reach_of-reach-requires : goal.reach_of-reach-requires
-reach_of-reach-requires c = rw (c.slot_of-x.ensures, c.key_address.ensures) c.requires.4
+reach_of-reach-requires c = rw (c.slot_of-x.ensures, c.key_address.ensures) c.requires.2
 
 pub take_tagged-requires : goal.take_tagged-requires
 take_tagged-requires c =
-    let back = marked c.args.state.now c.args.a.side c.args.i c.requires.0 c.mark_used.ensures in
-    (omega arith, c.requires.1, rw c.in-Faulted.is at c.judge_word-judged.ensures.fits, rw back c.requires.3)
+    let back = marked c.args.state.now c.args.a.side c.args.i c.told-state c.mark_used.ensures in
+    (rw c.in-Err.is at c.judge_word-judged.ensures.fits, rw back c.requires.1)
 
 pub translated_by-requires : goal.translated_by-requires
 translated_by-requires c = c.reach_of-reach.ensures.small
 
-pub returns-in-Faulted : goal.returns-in-Faulted
-returns-in-Faulted c =
+pub returns-in-Err : goal.returns-in-Err
+returns-in-Err c =
     -- the found slot
     let slot : Slot = get_or (side_of (state_in c.args.state.now) c.args.a.side) c.args.i no_slot in
     -- the one match
@@ -44,15 +43,15 @@ returns-in-Faulted c =
     -- what the found entry's word says
     let verdict : judge (state_in c.args.state.now).registers c.args.a slot.word ≡ c.judge_word-judged.result =
     sym (c.judge_word-judged.ensures.judged ∙ rw c.slot_of-x.ensures) in
-    let back = marked c.args.state.now c.args.a.side c.args.i c.requires.0 c.mark_used.ensures in
-    rw (matched, verdict ∙ c.in-Faulted.is) (rw back at c.take_tagged.ensures)
+    let back = marked c.args.state.now c.args.a.side c.args.i c.told-state c.mark_used.ensures in
+    rw (matched, verdict ∙ c.in-Err.is) (rw back at c.take_tagged.ensures)
 
-pub returns-in-Permitted : goal.returns-in-Permitted
-returns-in-Permitted c =
+pub returns-in-Ok : goal.returns-in-Ok
+returns-in-Ok c =
     let slot : Slot = get_or (side_of (state_in c.args.state.now) c.args.a.side) c.args.i no_slot in
     let matched : page_match slot (key_address c.args.key) ≡ within c.reach_of-reach.result =
     rw (c.slot_of-x.ensures, c.key_address.ensures) at c.reach_of-reach.ensures.matched in
     let verdict : judge (state_in c.args.state.now).registers c.args.a slot.word ≡ c.judge_word-judged.result =
     sym (c.judge_word-judged.ensures.judged ∙ rw c.slot_of-x.ensures) in
-    rw (matched, verdict ∙ c.in-Permitted.is)
+    rw (matched, verdict ∙ c.in-Ok.is)
     (record { words = c.mark_used.ensures; answer = rw (c.translated_by.ensures, c.slot_of-x.ensures) })

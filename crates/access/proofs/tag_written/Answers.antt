@@ -7,15 +7,15 @@ use Rattle.access.proofs.tag_written.Goals as goal
 
 pub returns-then-translation_on : goal.returns-then-translation_on
 returns-then-translation_on c =
-    let a = c.args.a in
-    let sound = strand-sound (state_in c.args.state.now).registers a.strand c.requires.2 c.requires.1.strands in record {
-      tag = rw (sym c.translation_on.ensures ∙ c.if-translation_on.true, c.selected_context.ensures);
+    let a = c.args.a.now in
+    let sound = strand-sound (state_in c.args.state.now).registers a.strand c.requires c.translation_on.ensures.small in record {
+      tag = rw (sym c.translation_on.ensures.on ∙ c.if-translation_on.true, c.selected_context.ensures);
       fits = rw c.selected_context.ensures (sound.contexts a.selector);
     }
 
 pub returns : goal.returns
 returns c =
     record {
-      tag = rw (sym c.translation_on.ensures ∙ c.if-translation_on.false);
+      tag = rw (sym c.translation_on.ensures.on ∙ c.if-translation_on.false);
       fits = omega arith;
     }

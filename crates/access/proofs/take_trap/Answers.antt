@@ -10,7 +10,7 @@ pub returns : goal.returns
 returns c =
     let a = c.args.a in
     let u : State = state_in c.args.state.now in
-    let z = sized-words counts c.args.state.now c.requires.0 in
+    let z = sized-words counts c.args.state.now c.told-state in
     let l = trap-length u.registers a c.args.trap c.args.tag ∙ z.registers in
     let back = registers-back u z (trap_registers u.registers a c.args.trap c.args.tag) l c.write_trap.ensures in
     record { words = c.write_trap.ensures; answer = rw (c.tag_of.ensures, back) }

@@ -2,4 +2,7 @@
 use Rattle.access.proofs.translation_on.Goals as goal
 
 pub returns : goal.returns
-returns c = rw (c.bit_of.ensures, c.read_register-enables.ensures)
+returns c = record {
+  on = rw (c.bit_of.ensures, c.number.ensures.value, c.read_register-enables.ensures.read);
+  small = c.read_register-enables.ensures.small;
+}

@@ -19,14 +19,14 @@ pub returns-then-tag_fits : goal.returns-then-tag_fits
 unfolding entry_fits
 returns-then-tag_fits c =
     let told =
-    tag (state_in c.args.state.now).registers c.args.strand c.args.side c.args.tag c.tsb_code-code.ensures c.miss_context-context.ensures
+    tag (state_in c.args.state.now).registers c.args.strand c.args.side c.args.tag (rw c.at.ensures at c.tsb_code-code.ensures) c.miss_context-context.ensures
     c.miss_address-address.ensures c.tag_fits.ensures in
-    rw (told ∙ c.if-tag_fits.true) (c.word_fits.ensures ∙ rw c.tsb_code-code.ensures)
+    rw (told ∙ c.if-tag_fits.true) (c.word_fits.ensures ∙ rw (c.tsb_code-code.ensures, c.at.ensures))
 
 pub returns-else-tag_fits : goal.returns-else-tag_fits
 unfolding entry_fits
 returns-else-tag_fits c =
     let told =
-    tag (state_in c.args.state.now).registers c.args.strand c.args.side c.args.tag c.tsb_code-code.ensures c.miss_context-context.ensures
+    tag (state_in c.args.state.now).registers c.args.strand c.args.side c.args.tag (rw c.at.ensures at c.tsb_code-code.ensures) c.miss_context-context.ensures
     c.miss_address-address.ensures c.tag_fits.ensures in
     rw (told ∙ c.if-tag_fits.false) c.if-tag_fits.false

@@ -12,7 +12,7 @@ returns-then-not-entry_fits c =
     let a = c.args in
     let unfit : entry_fits (state_in a.state.now).registers a.strand a.side a.tag a.word ≡ false =
     failed c.entry_fits.ensures c.if-not-entry_fits.true in
-    record { words = rw unfit (sym (encode-state counts _ c.requires.0)); answer = rw unfit }
+    record { words = rw unfit (sym (encode-state counts _ c.told-state)); answer = rw unfit }
 
 pub returns : goal.returns
 returns c =

@@ -4,4 +4,4 @@ use mathlib.Core.Path.{ap}
 use Rattle.miss_handler.proofs.table_n.Goals as goal
 
 pub returns : goal.returns
-returns c = ap (λ (base : ℕ). base % 16) c.tsb_base.ensures
+returns c = ap (λ (base : ℕ). base % 16) (rw c.at.ensures at c.tsb_base.ensures)

@@ -14,7 +14,7 @@ use Rattle.miss_record.proofs.clear_from.Goals as goal
 use Rattle.miss_record.proofs.clear_from.Goals.{then-seen-i, else-seen-i}
 
 pub loop-i-init : goal.loop-i-init
-loop-i-init c = (omega arith, omega arith, sym (below_all _ _ (λ j l. rw (lt-ltb j _ l))))
+loop-i-init c = sym (below_all _ _ (λ j l. rw (lt-ltb j _ l)))
 
 pub loop-i-preserved : goal.loop-i-preserved
 unfolding all_below
@@ -23,15 +23,15 @@ loop-i-preserved c =
     let a = c.args in
     let joined : eqb c.if-seen-i.unused 0
     ≡ ((ltb l.i a.from || (ltb (64 * (l.i + 1)) a.seen || eqb (get_or a.older.now l.i 0) 0)) && eqb l.unused 0) =
-    rw (le-ltb l.i a.from l.invariant.0)
+    rw (le-ltb l.i a.from (omega arith))
     (elim c.if-seen-i.branch [
       | then-seen-i w ↦ rw (w.unused-is, le-ltb (64 * (l.i + 1)) a.seen (omega arith)) (or-clear l.unused _)
       | else-seen-i w ↦ rw (w.unused-is, lt-ltb (64 * (l.i + 1)) a.seen (omega arith))
     ]) in
-    (omega arith, omega arith, rw (add-one l.i) (joined ∙ rw l.invariant.2))
+    rw (add-one l.i) (joined ∙ rw l.invariant)
 
 pub returns : goal.returns
 returns c =
     let l = c.loop-i in
     let e : l.i ≡ 15 = omega arith in
-    rw e at l.invariant.2
+    rw e at l.invariant

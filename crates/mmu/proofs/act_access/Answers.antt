@@ -1,11 +1,9 @@
 -- `mmu::act_access` meets its contract: its access is one that the unit has.
-use borrow.Author.Rules.{rules}
 use Rattle.machine.specs.Step.{act}
-use Rattle.machine.proofs.State.{kind_side_lem}
 use Rattle.mmu.proofs.act_access.Goals as goal
 
 pub access_to-requires : goal.access_to-requires
-access_to-requires c = rw c.access_of-a.ensures (search rules, record { strands = c.requires.fit.0; sides = kind_side_lem c.args.kind }, c.requires.fit.1, c.requires.sound)
+access_to-requires c = rw c.access_of-a.ensures (c.requires.fit.1, c.requires.sound)
 
 pub returns : goal.returns
 unfolding act

@@ -8,22 +8,22 @@ use Rattle.mmu.proofs.act_command.Goals as goal
 pub act_insert-requires : goal.act_insert-requires
 act_insert-requires c =
     let ready = rw c.in-Insert.is at c.requires in
-    (ready.lent, ready.sound, ready.fit.0, ready.fit.1)
+    ready.sound
 
 pub returns-in-Read : goal.returns-in-Read
 unfolding act
 returns-in-Read c =
     let e = c.in-Read.is in
-    record { words = rw e (sym (encode-state counts _ c.requires.lent)); answer = c.act_read.ensures ∙ rw e }
+    record { words = rw e (sym (encode-state counts _ c.told-state)); answer = c.act_read.ensures ∙ rw (c.at-in-Read.ensures, e) }
 
 pub returns-in-Pointers : goal.returns-in-Pointers
 unfolding act
 returns-in-Pointers c =
     let e = c.in-Pointers.is in
-    record { words = rw e (sym (encode-state counts _ c.requires.lent)); answer = c.act_pointers.ensures ∙ rw e }
+    record { words = rw e (sym (encode-state counts _ c.told-state)); answer = c.act_pointers.ensures ∙ rw (c.at-in-Pointers.ensures, c.at-in-Pointers-2.ensures, e) }
 
 pub returns-in-Rate : goal.returns-in-Rate
 unfolding act
 returns-in-Rate c =
     let e = c.in-Rate.is in
-    record { words = rw e (sym (encode-state counts _ c.requires.lent)); answer = c.act_rate.ensures ∙ rw e }
+    record { words = rw e (sym (encode-state counts _ c.told-state)); answer = c.act_rate.ensures ∙ rw (c.at-in-Rate.ensures, c.at-in-Rate-2.ensures, e) }

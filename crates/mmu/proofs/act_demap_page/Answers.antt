@@ -9,5 +9,5 @@ returns c =
       c.key_for-key.ensures,
       c.flag_real.ensures,
       c.selected_context-context.ensures,
-      c.read_register-partition.ensures,
+      c.read_register-partition.ensures.read,
     ) at c.act_demap.ensures

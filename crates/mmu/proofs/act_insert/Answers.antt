@@ -9,7 +9,7 @@ use Rattle.mmu.proofs.act_insert.Goals as goal
 pub placed_to_answer-requires : goal.placed_to_answer-requires
 placed_to_answer-requires c =
     let u = state_in c.args.state.now in
-    rw c.insert_side-placed.ensures.placed (place-fits _ _ (sound-side counts u c.requires.1 c.args.side).1)
+    rw c.insert_side-placed.ensures.placed (place-fits _ _ (sound-side counts u c.requires c.args.side).1)
 
 pub returns : goal.returns
 unfolding act

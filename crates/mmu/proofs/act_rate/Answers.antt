@@ -1,11 +1,8 @@
 -- `mmu::act_rate` meets its contract.
-use mathlib.Core.Path.{◌≡◌}
-use mathlib.Core.Bool.{true}
 use Rattle.laws.specs.Tests.{all_of}
 use Rattle.laws.proofs.Bools.{and_left, and_right}
-use Rattle.machine.specs.Record.{record_of}
 use Rattle.machine.specs.State.{state_in}
-use Rattle.machine.specs.Questions.{has_lookups, asked}
+use Rattle.machine.specs.Questions.{asked}
 use Rattle.machine.specs.Step.{act}
 use Rattle.machine.specs.declared.Command.TheVariants as command
 use Rattle.machine.proofs.State.{passed-asked}
@@ -19,8 +16,7 @@ unfolding asked all_of
 miss_rate-requires c =
     let u = state_in c.args.state.now in
     let q = passed-asked c.requires.passed.0 u (command.Rate c.args.strand c.args.side) c.requires.passed.1 in
-    let kept : has_lookups u.records (record_of c.args.strand c.args.side) ≡ true = search conj in
-    (c.requires.lent, c.requires.fit.0, c.requires.fit.1, kept)
+    search conj
 
 pub returns : goal.returns
 unfolding act

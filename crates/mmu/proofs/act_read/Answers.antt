@@ -4,4 +4,4 @@ use Rattle.mmu.proofs.act_read.Goals as goal
 
 pub returns : goal.returns
 unfolding act
-returns c = rw c.read_register.ensures
+returns c = rw c.read_register.ensures.read

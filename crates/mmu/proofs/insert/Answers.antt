@@ -17,7 +17,7 @@ returns-then-not-in_range c =
     let address : c.in_range.result ≡ in_range (tag_address (tag_access (state_in a.state.now).registers a.strand a.side)).0 =
     rw (c.tag_address.ensures, c.tag_of.ensures) at c.in_range.ensures in
     let e = failed address c.if-not-in_range.true in
-    record { words = rw e (sym (encode-state counts _ c.requires.0)); answer = rw e }
+    record { words = rw e (sym (encode-state counts _ c.told-state)); answer = rw e }
 
 pub returns-then-not-word_insertable : goal.returns-then-not-word_insertable
 unfolding insert_step asked_insertion ask
@@ -27,7 +27,7 @@ returns-then-not-word_insertable c =
     rw (c.tag_address.ensures, c.tag_of.ensures) at c.in_range.ensures in
     let e = held address c.if-not-in_range.false in
     let w = failed c.word_insertable.ensures.insertable c.if-not-word_insertable.true in
-    record { words = rw (e, w) (sym (encode-state counts _ c.requires.0)); answer = rw (e, w) }
+    record { words = rw (e, w) (sym (encode-state counts _ c.told-state)); answer = rw (e, w) }
 
 pub returns : goal.returns
 returns c =

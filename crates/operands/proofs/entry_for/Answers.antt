@@ -10,6 +10,6 @@ returns c =
       c.tag_address.ensures,
       c.tag_context.ensures,
       c.flag_real.ensures,
-      c.read_register-partition.ensures,
+      c.read_register-partition.ensures.read,
       c.tag_of-tag.ensures,
     )

@@ -1,31 +1,36 @@
 -- `questions::ask_context` meets its contract: 5 and 6, then 7.
+use Rattle.std.proofs.Common.{Ok, Result}
+use Rattle.std.proofs.lemmas.Result.{err_from_is_err_and}
+use Rattle.std.specs.Result.{result_and}
 use Prim.Native.Nat.{ℕ}
 use mathlib.Core.Path.{◌≡◌}
 use mathlib.Core.List.{[], ◌∷◌}
-use Rattle.machine.specs.declared.Verdict.{Verdict}
-use Rattle.machine.specs.declared.Verdict.TheVariants.{Passed}
 use Rattle.machine.specs.declared.Refusal.TheVariants as refusal
 use Rattle.machine.specs.Questions.{question, selector_fits, ask}
 use Rattle.questions.specs.Verdicts.{asked_side, asked_context}
-use Rattle.questions.proofs.Asks.{Left, every, yes, no, none, passed, refused, held, failed}
+use Rattle.questions.proofs.Asks.{Left, every, yes, no, none, passed, same-strand, same-side, refused, held, failed}
 use Rattle.questions.proofs.ask_context.Goals as goal
+use Rattle.machine.specs.declared.Refusal.{Refusal}
 
-left-2 : {v : Verdict} (strand side selector : ℕ) → v ≡ ask (asked_side strand side) → v ≡ Passed
+-- what is left once 5 and 6 passed
+left-2 : {w : Result (ℕ × ℕ) Refusal} {y : ℕ × ℕ} (strand side selector : ℕ) → w ≡ result_and (ask (asked_side strand side)) (Ok (strand, side)) → w ≡ Ok y
     → Left (ask (asked_context strand side selector)) (question refusal.Selector (selector_fits side selector) ∷ [])
-left-2 strand side selector p e = passed (asked_side strand side) _ p e (every (asked_context strand side selector))
+left-2 strand side selector p e = passed (asked_side strand side) (strand, side) p _ e (every (asked_context strand side selector))
 
-pub returns-in-Refused : goal.returns-in-Refused
-returns-in-Refused c =
+pub returns-in_err-strand : goal.returns-in_err-strand
+returns-in_err-strand c =
     let a = c.args in
-    refused (asked_side a.strand a.side) _ c.ask_side.ensures c.in-Refused.is
-    (every (asked_context a.strand a.side a.selector))
+    let p = err_from_is_err_and c.from_residual.result c.from_residual.ensures.1 in
+    rw (p.1, p.2, ← refused (asked_side a.strand a.side) (a.strand, a.side) c.ask_side.ensures _ c.in_err-strand.was (every (asked_context a.strand a.side a.selector)))
 
 pub returns-then-not-selector_fits : goal.returns-then-not-selector_fits
 returns-then-not-selector_fits c =
     let a = c.args in
-    no (left-2 a.strand a.side a.selector c.ask_side.ensures c.in_default.is) (failed c.selector_fits.ensures c.if-not-selector_fits.true)
+    let asked = rw (same-side (asked_side a.strand a.side) a.strand a.side c.ask_side.ensures c.in_ok-strand.was) at c.selector_fits.ensures in
+    rw (← no (left-2 a.strand a.side a.selector c.ask_side.ensures c.in_ok-strand.was) (failed asked c.if-not-selector_fits.true))
 
 pub returns : goal.returns
 returns c =
     let a = c.args in
-    none (yes (left-2 a.strand a.side a.selector c.ask_side.ensures c.in_default.is) (held c.selector_fits.ensures c.if-not-selector_fits.false))
+    let asked = rw (same-side (asked_side a.strand a.side) a.strand a.side c.ask_side.ensures c.in_ok-strand.was) at c.selector_fits.ensures in
+    rw (← none (yes (left-2 a.strand a.side a.selector c.ask_side.ensures c.in_ok-strand.was) (held asked c.if-not-selector_fits.false)), same-strand (asked_side a.strand a.side) a.strand a.side c.ask_side.ensures c.in_ok-strand.was)

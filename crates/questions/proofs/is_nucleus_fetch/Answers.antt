@@ -3,7 +3,7 @@ use borrow.Author.Tests.{eq-eqb, ne_eqb}
 use Rattle.questions.proofs.is_nucleus_fetch.Goals as goal
 
 pub returns-then-selector-eq2 : goal.returns-then-selector-eq2
-returns-then-selector-eq2 c = rw (eq-eqb _ _ c.if-kind-eq0.true, eq-eqb _ _ c.if-selector-eq2.true, c.read_register.ensures)
+returns-then-selector-eq2 c = rw (eq-eqb _ _ c.if-kind-eq0.true, eq-eqb _ _ c.if-selector-eq2.true, c.read_register.ensures.read)
 
 pub returns-else-selector-eq2 : goal.returns-else-selector-eq2
 returns-else-selector-eq2 c = rw (eq-eqb _ _ c.if-kind-eq0.true, ne_eqb _ _ c.if-selector-eq2.false)

@@ -15,12 +15,12 @@ all false mode h = le-leb 2 mode h
 pub returns-then-mode-ge-HYPERPRIVILEGED : goal.returns-then-mode-ge-HYPERPRIVILEGED
 returns-then-mode-ge-HYPERPRIVILEGED c =
     let mode = c.read_register-mode in
-    le-leb 2 mode.result c.if-mode-ge-HYPERPRIVILEGED.true ∙ sym (rw mode.ensures at (all c.args.guest mode.result c.if-mode-ge-HYPERPRIVILEGED.true))
+    le-leb 2 mode.result c.if-mode-ge-HYPERPRIVILEGED.true ∙ sym (rw mode.ensures.read at (all c.args.guest mode.result c.if-mode-ge-HYPERPRIVILEGED.true))
 
 pub returns-then-guest : goal.returns-then-guest
-returns-then-guest c = rw (c.if-guest.true, c.read_register-mode.ensures)
+returns-then-guest c = rw (c.if-guest.true, c.read_register-mode.ensures.read)
 
 pub returns-else-guest : goal.returns-else-guest
 returns-else-guest c =
     let mode = c.read_register-mode in
-    rw (c.if-guest.false, ← mode.ensures) (sym (lt-leb 2 mode.result c.if-mode-ge-HYPERPRIVILEGED.false))
+    rw (c.if-guest.false, ← mode.ensures.read) (sym (lt-leb 2 mode.result c.if-mode-ge-HYPERPRIVILEGED.false))

@@ -1,42 +1,32 @@
--- `registers::file_sound` meets its contract. The loop has found every cell of the strands below `start` to fit.
-use mathlib.Core.Path.{refl}
-use native.Mathlib.Omega.{arith}
-use borrow.Author.Rules.{rules}
-use borrow.Author.Tests.{eq-eqb, ne_eqb}
-use Rattle.laws.proofs.Bools.{clash}
-use Rattle.laws.proofs.Belows.{below_all}
+-- `registers::file_sound` meets its contract: strand by strand.
+use Prim.Native.Nat.{ℕ, ◌/◌}
+use mathlib.Core.Bool.{Bool}
+use mathlib.Core.List.{List}
+use mathlib.Core.Path.{◌≡◌, ◌∙◌}
+use Rattle.std.proofs.Common.{arith, rules, tests}
+use Rattle.std.proofs.lemmas.Iterator.{YieldsList-from_slice}
+use Rattle.std.proofs.lemmas.Iterator.Search.{all_from_yields_List}
+use Rattle.std.specs.List.{list_all}
+use lib.ListN.{length}
+use Rattle.laws.specs.Tests.{all_below}
 use Rattle.machine.specs.Registers.{registers_sound}
-use Rattle.registers.proofs.Cells.{passed}
+use Rattle.registers.proofs.Ranges.{cell_fits}
+use Rattle.registers.proofs.Strands.{strands-fit}
 use Rattle.registers.proofs.file_sound.Goals as goal
 
-pub returns-then-file-ne-REGISTER_WORDS : goal.returns-then-file-ne-REGISTER_WORDS
+-- whether a strand fits
+abbrev strand : List ℕ → Bool
+strand cells = all_below (cell_fits cells) 32
+
+pub returns-then-file-eq-REGISTER_WORDS : goal.returns-then-file-eq-REGISTER_WORDS
 unfolding registers_sound
-returns-then-file-ne-REGISTER_WORDS c = rw (ne_eqb _ _ c.if-file-ne-REGISTER_WORDS.true)
+returns-then-file-eq-REGISTER_WORDS c =
+    let strands = c.as_chunks.result.0.now in
+    let told : c.all.result ≡ list_all strand strands =
+    all_from_yields_List strand _ _ c.all.result c.all.ensures.ran (YieldsList-from_slice strands cc) (λ x b q k. search (rules, tests)) in
+    let cut : length c.args.file.now / 32 ≡ 4 = omega arith in
+    rw (c.if-file-eq-REGISTER_WORDS.true) (told ∙ rw (c.as_chunks.ensures.front, cut) (strands-fit 4 c.args.file.now (omega arith)))
 
-pub loop-start-init : goal.loop-start-init
-loop-start-init c = (search rules, search rules, record { each = λ e k h. absurd (omega arith); some = λ e. clash refl e })
-
-pub strand_fits-requires : goal.strand_fits-requires
-strand_fits-requires c =
-    let inv = c.loop-start.invariant in
-    (record { words = search rules; room = omega arith; begins = inv.1 }, inv.2)
-
-pub returns-then-not-strand_fits : goal.returns-then-not-strand_fits
+pub returns-else-file-eq-REGISTER_WORDS : goal.returns-else-file-eq-REGISTER_WORDS
 unfolding registers_sound
-returns-then-not-strand_fits c = rw (eq-eqb _ _ c.if-file-ne-REGISTER_WORDS.false, c.strand_fits.ensures.some c.if-not-strand_fits.true)
-
-pub overflow_add-start : goal.overflow_add-start
-unfolding registers_sound
-overflow_add-start c = omega arith
-
-pub loop-start-smaller : goal.loop-start-smaller
-unfolding registers_sound
-loop-start-smaller c = omega arith
-
-pub loop-start-preserved : goal.loop-start-preserved
-unfolding registers_sound
-loop-start-preserved c = (omega arith, omega arith, passed c.strand_fits.ensures c.if-not-strand_fits.false)
-
-pub returns : goal.returns
-unfolding registers_sound
-returns c = rw (eq-eqb _ _ c.if-file-ne-REGISTER_WORDS.false, below_all _ 128 (λ k h. c.loop-start.invariant.2.each refl k (omega arith)))
+returns-else-file-eq-REGISTER_WORDS c = grind arith

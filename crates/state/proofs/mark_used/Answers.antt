@@ -8,5 +8,5 @@ use Rattle.state.proofs.mark_used.Goals as goal
 
 pub returns : goal.returns
 returns c =
-    let part = lent-side _ c.requires.0 c.requires.1 c.side_start-start.ensures in
+    let part = lent-side _ c.told-state c.side_start-start.ensures.small c.side_start-start.ensures.start in
     part.back (set_used c.args.i) (c.set_used.ensures ∙ store-slots _ _ _ (omega (arith, part.count)))

@@ -4,4 +4,8 @@ use Rattle.state.proofs.Parts.{register-read}
 use Rattle.state.proofs.read_register.Goals as goal
 
 pub returns : goal.returns
-returns c = rw c.cell-at.ensures (register-read counts _ _ _ c.requires.1 c.requires.2)
+returns c =
+    let small = c.cell-at.ensures.small in record {
+      read = rw c.cell-at.ensures.cell (register-read counts _ _ _ small c.requires);
+      small = small;
+    }

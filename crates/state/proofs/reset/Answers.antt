@@ -1,12 +1,13 @@
--- `state::reset` meets its contract. The loop has filled every word below i.
-use mathlib.Core.Path.{◌∙◌}
+-- `state::reset` meets its contract.
+use mathlib.Core.Path.{◌≡◌, refl, ap, ◌∙◌}
+use native.Mathlib.Numerals.{add-one}
 use native.Mathlib.Omega.{arith}
-use borrow.Author.Rules.{rules}
+use lib.ListN.{replicate}
 use borrow.Author.Tests.{eq-eqb, ne_eqb}
-use lib.ListN.{length-set}
-use Rattle.machine.specs.State.{reset_of, reset_number}
-use Rattle.state.specs.Reset.{reset_word}
-use Rattle.state.proofs.Filled.{filled_more, reset-filled}
+use Rattle.machine.specs.Slots.{words_of}
+use Rattle.machine.specs.Registers.{reset_strands}
+use Rattle.machine.specs.State.{counts, encode, reset, reset_of, reset_number}
+use Rattle.state.proofs.reset.Invariants.{with_modes}
 use Rattle.state.proofs.reset.Goals as goal
 
 pub returns-then-state-ne-STATE_WORDS : goal.returns-then-state-ne-STATE_WORDS
@@ -17,20 +18,22 @@ returns-then-state-ne-STATE_WORDS c =
       number = rw e;
     }
 
-pub loop-i-init : goal.loop-i-init
-loop-i-init c = (search rules, c.if-state-ne-STATE_WORDS.false, λ k h. absurd (omega arith))
+pub loop-strand-init : goal.loop-strand-init
+loop-strand-init c = c.fill.ensures.after (λ y e. e) ∙ ap (λ n. replicate n 0) c.if-state-ne-STATE_WORDS.false
 
-pub loop-i-preserved : goal.loop-i-preserved
-loop-i-preserved c =
-    let l = c.loop-i in
-    let v = c.reset_word.result in
-    (omega arith, length-set l.state l.i v ∙ l.invariant.1, filled_more reset_word l.state l.i v (omega arith) c.reset_word.ensures l.invariant.2)
+pub loop-strand-preserved : goal.loop-strand-preserved
+loop-strand-preserved c = rw (add-one c.loop-strand.strand, c.cell.ensures.cell, c.at.ensures, c.loop-strand.invariant)
+
+-- the words of a reset state: the mode of all four strands is set
+reset-words : with_modes 4 ≡ encode (reset counts)
+unfolding encode reset reset_strands words_of
+reset-words = refl
 
 pub returns : goal.returns
 unfolding reset_of reset_number
 returns c =
-    let l = c.loop-i in
-    let e = eq-eqb _ _ c.if-state-ne-STATE_WORDS.false in record {
-      words = rw e (reset-filled l.state l.invariant.1 (λ k h. l.invariant.2 k (omega arith)));
+    let e = eq-eqb _ _ c.if-state-ne-STATE_WORDS.false in
+    let all : c.loop-strand.strand ≡ 4 = omega arith in record {
+      words = rw e (rw all at c.loop-strand.invariant ∙ reset-words);
       number = rw e;
     }

@@ -1,11 +1,13 @@
-use Prim.Native.Nat.{ℕ, ◌-◌, ◌≤◌, ◌<◌}
+use Prim.Native.Nat.{ℕ, zero, suc, ◌+◌, ◌*◌}
+use mathlib.Core.List.{List}
 use mathlib.Core.Path.{◌≡◌}
-use lib.ListN.{length, get_or}
-use Rattle.state.specs.Reset.{reset_word}
+use lib.ListN.{replicate, set}
 use Rattle.state.proofs.reset.Given as goal
 
-abbrev pub invariant-loop-i : goal.invariant-loop-i
-invariant-loop-i l = (l.i ≤ 776) × (length l.state ≡ 776) × ((k : ℕ) → k < l.i → get_or l.state k 0 ≡ reset_word k)
+-- the words with the mode of the first strands set
+abbrev pub with_modes : ℕ → List ℕ
+with_modes zero = replicate 776 0
+with_modes (suc n) = set (with_modes n) (n * 32 + 3) 2
 
-abbrev pub decreases-loop-i : goal.decreases-loop-i
-decreases-loop-i l = 776 - l.i
+abbrev pub invariant-loop-strand : goal.invariant-loop-strand
+invariant-loop-strand l = l.state ≡ with_modes l.strand

@@ -15,19 +15,19 @@ use Rattle.state.proofs.search_hinted.Goals as goal
 pub answers-requires : goal.answers-requires
 answers-requires c =
     let u : State = state_in c.args.state.now in
-    (rw c.slot_of.ensures (sound-slot (side_of u c.args.side) _ (sound-side counts u c.requires.2 c.args.side).1), c.requires.3)
+    (rw c.slot_of.ensures (sound-slot (side_of u c.args.side) _ (sound-side counts u c.requires.0 c.args.side).1), c.requires.1)
 
 pub returns-then-answers : goal.returns-then-answers
 returns-then-answers c =
     let u : State = state_in c.args.state.now in
     let side : List Slot = side_of u c.args.side in
-    let one = one-answers c.args.key side c.requires.3 (sound-side counts u c.requires.2 c.args.side).1 in
+    let one = one-answers c.args.key side c.requires.1 (sound-side counts u c.requires.0 c.args.side).1 in
     sym (first-only (answers_to c.args.key) side _ no_slot one
-    (omega (arith, side-slots c.args.state.now c.requires.0 c.args.side))
+    (omega (arith, side-slots c.args.state.now c.told-state c.args.side))
     (rw (← c.slot_of.ensures) (sym c.answers.ensures ∙ c.if-answers.true)))
 
-pub returns-in-At : goal.returns-in-At
-returns-in-At c = sym c.in-At.is ∙ ap (λ (r : Searched). r.found) c.search_side-found.ensures
+pub returns-in-Some : goal.returns-in-Some
+returns-in-Some c = sym c.in-Some.is ∙ ap (λ (r : Searched). r.found) c.search_side-found.ensures
 
 pub returns-in_default : goal.returns-in_default
 returns-in_default c = ap (λ (r : Searched). r.found) c.search_side-found.ensures

@@ -7,7 +7,7 @@ use Rattle.state.proofs.search_side.Goals as goal
 
 pub search-requires : goal.search-requires
 search-requires c =
-    (rw c.side_of.ensures.slots (sound-side counts (state_in c.args.state.now) c.requires.2 c.args.side).1, c.requires.3)
+    (rw c.side_of.ensures.slots (sound-side counts (state_in c.args.state.now) c.requires.0 c.args.side).1, c.requires.1)
 
 pub returns : goal.returns
 returns c = c.search.ensures ∙ ap (searched _) c.side_of.ensures.slots

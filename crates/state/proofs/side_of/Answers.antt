@@ -4,7 +4,7 @@ use Rattle.state.proofs.side_of.Goals as goal
 
 pub returns : goal.returns
 returns c =
-    let part = lent-side _ c.requires.0 c.requires.1 c.side_start-start.ensures in record {
+    let part = lent-side _ c.told-state c.side_start-start.ensures.small c.side_start-start.ensures.start in record {
       slots = part.slots;
       count = part.count;
     }

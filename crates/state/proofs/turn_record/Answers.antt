@@ -4,7 +4,7 @@ use mathlib.Core.Path.{◌≡◌}
 use mathlib.Core.List.{List, ◌∷◌}
 use native.Mathlib.Omega.{arith}
 use lib.ListN.{set, get_or, take, drop}
-use Rattle.state.specs.Calls.{Lent}
+use Rattle.state.proofs.Lent.{Lent}
 use Rattle.state.proofs.Parts.{spliced}
 use Rattle.state.proofs.Lookups.{Turned, turned-stored}
 use Rattle.state.proofs.turn_record.Goals as goal
@@ -16,15 +16,10 @@ turned-words : (words : List ℕ) (r : ℕ) {part : List ℕ} {last : ℕ} → l
     → Turned words r (set (spliced a (a + 15 - a) part words) (648 + r) last)
 turned-words words r l h p e = turned-stored words l r h (656 + r * 15 + 15 - (656 + r * 15)) _ _ (omega arith) p e
 
-pub bounds-state-number-3 : goal.bounds-state-number-3
-bounds-state-number-3 c =
-    let w = turned-words c.args.state.now c.args.number c.requires.0 c.requires.1 c.turn.ensures.words c.turn.ensures.last in
-    omega (arith, w.long, c.requires.1)
-
 pub returns-then-seen-gt1024 : goal.returns-then-seen-gt1024
 returns-then-seen-gt1024 c =
-    (turned-words c.args.state.now c.args.number c.requires.0 c.requires.1 c.turn.ensures.words c.turn.ensures.last).more c.if-seen-gt1024.true
+    (turned-words c.args.state.now c.args.number c.told-state c.requires c.turn.ensures.words c.turn.ensures.last).more c.if-seen-gt1024.true
 
 pub returns-else-seen-gt1024 : goal.returns-else-seen-gt1024
 returns-else-seen-gt1024 c =
-    (turned-words c.args.state.now c.args.number c.requires.0 c.requires.1 c.turn.ensures.words c.turn.ensures.last).few c.if-seen-gt1024.false
+    (turned-words c.args.state.now c.args.number c.told-state c.requires c.turn.ensures.words c.turn.ensures.last).few c.if-seen-gt1024.false

@@ -12,13 +12,12 @@ pub record Going (hv : Bool) (state₀ input output₀ words output : List ℕ) 
   pub inside : at ≤ length input
   pub size : length words ≡ state_length
   pub sound : state.sound counts (state_in words) ≡ true
-  pub kept : length words ≡ length state₀
   pub room : length output ≡ length output₀
   pub fits : answered * 24 ≤ length output
   pub rest : resume hv (state_in words) input output answered at ≡ run_of hv counts state₀ input output₀
 
 abbrev pub invariant-loop-at : goal.invariant-loop-at
-invariant-loop-at l = Going l.hypervisor l.initial.state l.input l.initial.output l.state l.output l.at l.answered
+invariant-loop-at l = Going l.hypervisor l.fn.state l.input l.initial.output l.words l.output l.at l.answered
 
 abbrev pub decreases-loop-at : goal.decreases-loop-at
 decreases-loop-at l = length l.input - l.at

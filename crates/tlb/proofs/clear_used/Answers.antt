@@ -13,23 +13,15 @@ same : (l new : List ℕ) (i : ℕ) → length l % 4 ≡ 0 → new ≡ replaced 
 same l new i h e = ap length e ∙ replace-length without_used l i h
 
 pub loop-i-init : goal.loop-i-init
-loop-i-init c = (omega arith, replace-start without_used c.args.slots.now c.requires)
-
-pub bounds-slots-k : goal.bounds-slots-k
-bounds-slots-k c = omega (arith, same _ _ _ c.requires c.loop-i.invariant.1)
-
-pub bounds-slots-k-in-loop-i : goal.bounds-slots-k-in-loop-i
-bounds-slots-k-in-loop-i c = omega (arith, same _ _ _ c.requires c.loop-i.invariant.1)
+loop-i-init c = replace-start without_used c.args.slots.now c.requires
 
 pub loop-i-preserved : goal.loop-i-preserved
 loop-i-preserved c =
     let l = c.args.slots.now in
-    let i = c.loop-i.i in (
-      omega arith,
-      flags-on without_used c.loop-i.slots i _ (omega (arith, same _ _ _ c.requires c.loop-i.invariant.1)) refl
-          ∙ ap (on_slot without_used i) c.loop-i.invariant.1
-          ∙ replace-turn without_used l i (omega arith),
-    )
+    let i = c.loop-i.i in
+    flags-on without_used c.loop-i.slots i _ (omega (arith, same _ _ _ c.requires c.loop-i.invariant)) refl
+    ∙ ap (on_slot without_used i) c.loop-i.invariant
+    ∙ replace-turn without_used l i (omega arith)
 
 pub returns : goal.returns
-returns c = c.loop-i.invariant.1 ∙ replace-end without_used c.args.slots.now _ (omega arith)
+returns c = c.loop-i.invariant ∙ replace-end without_used c.args.slots.now _ (omega arith)

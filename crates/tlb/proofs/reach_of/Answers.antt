@@ -17,9 +17,6 @@ use Rattle.tlb.proofs.reach_of.Goals as goal
 parts : (x : Slot) (a : ℕ) → holds x a ≡ true → a ≡ x.page + page_offset (size_code x) a
 parts x a h = omega (arith, split a (page_shift (size_code x)), eqb-true (page_start (size_code x) a) x.page h)
 
-pub overflow_sub-result : goal.overflow_sub-result
-overflow_sub-result c = omega (arith, parts c.args.x c.args.address c.requires)
-
 pub returns : goal.returns
 returns c =
     let x = c.args.x in

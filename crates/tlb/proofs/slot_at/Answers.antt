@@ -1,7 +1,7 @@
 -- `tlb::slot_at` meets its contract.
-use mathlib.Core.Path.{sym}
-use Rattle.machine.proofs.Slots.{slot-get}
+use Rattle.std.proofs.Common.{arith}
+use Rattle.tlb.proofs.ByRow.{rows_length}
 use Rattle.tlb.proofs.slot_at.Goals as goal
 
-pub returns : goal.returns
-returns c = sym (slot-get c.args.slots.now c.args.i c.requires)
+pub bounds-rows-i : goal.bounds-rows-i
+bounds-rows-i c = omega (arith, rows_length c.rows.result.now c.args.slots.now c.rows.ensures)

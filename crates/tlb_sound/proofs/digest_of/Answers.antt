@@ -1,20 +1,24 @@
--- `tlb_sound::digest_of` meets its contract. The invariant: what is gathered so far and the slots from i on make the digest of all.
-use Rattle.std.proofs.Common.{sym, refl, ◌∙◌, arith, rules}
-use Rattle.machine.specs.Slots.{slots_of}
-use Rattle.machine.proofs.Slots.{slots_length}
-use Rattle.tlb_sound.proofs.Digests.{joined_step, joined_end}
+-- `tlb_sound::digest_of` meets its contract: what is gathered of the first rows is their digest.
+use Rattle.std.proofs.Common.{◌≡◌, ◌∙◌, ap, List, ℕ, map, refl, sym, rules}
+use Rattle.std.proofs.iter.Yields.{fronts, slice_gives}
+use Rattle.std.proofs.lemmas.Fn.{fold_over}
+use Rattle.tlb.specs.Rows.{row_slot}
+use Rattle.tlb_sound.specs.Digests.{digest_one, joined, joined_all, no_digest}
+use Rattle.tlb_sound.specs.declared.Digest.{Digest}
+use Rattle.tlb_sound.proofs.Digests.{joined_more}
 use Rattle.tlb_sound.proofs.digest_of.Goals as goal
 
-pub loop-i-init : goal.loop-i-init
-loop-i-init c = (search rules, refl)
-
-pub loop-i-preserved : goal.loop-i-preserved
-loop-i-preserved c =
-    let l = c.args.slots.now in
-    let step = joined_step c.loop-i.d (slots_of l) c.loop-i.i (omega (arith, slots_length l)) in
-    (omega arith, rw (c.gather-d.ensures, c.slot_at.ensures) (sym step ∙ c.loop-i.invariant.1))
+-- the digest of some rows
+abbrev Gathered : List (List ℕ) → Digest → Type 0
+Gathered rows d = d ≡ joined_all no_digest (map row_slot rows)
 
 pub returns : goal.returns
+unfolding joined_all
 returns c =
-    let l = c.args.slots.now in
-    sym (joined_end c.loop-i.d (slots_of l) c.loop-i.i (omega (arith, slots_length l))) ∙ c.loop-i.invariant.1
+    fold_over fronts (λ x. x.now) _ Gathered _
+    (λ rows d row e f j k.
+    let more : e ≡ joined d (digest_one (row_slot row.now)) = search rules in
+    (more ∙ ap (λ (a : Digest). joined a (digest_one (row_slot row.now))) j ∙ sym (joined_more no_digest rows row.now), search rules))
+    c.iter.result _ _ _ (slice_gives c.iter.result) refl c.fold.ensures.ran
+    ∙ ap (λ (rows : List (List ℕ)). joined_all no_digest (map row_slot rows)) c.iter.ensures.rest
+    ∙ ap (joined_all no_digest) c.rows.ensures

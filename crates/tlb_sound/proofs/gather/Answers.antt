@@ -5,4 +5,4 @@ use Rattle.tlb_sound.proofs.gather.Goals as goal
 
 pub returns : goal.returns
 unfolding reach
-returns c = rw (c.wrapping_add_u64-reach.ensures.value, lt-ltb c.args.x.page (2 ^ 64) (omega arith))
+returns c = rw (lt-ltb c.args.x.page (2 ^ 64) (omega arith))

@@ -1,4 +1,4 @@
-use Rattle.std.proofs.Common.{◌≡◌, ◌/◌, ◌≤◌, true, length, drop}
+use Rattle.std.proofs.Common.{◌≡◌, true, length, drop}
 use Rattle.laws.specs.Tests.{pairwise}
 use Rattle.machine.specs.Slots.{slots_of}
 use Rattle.machine.specs.Insertion.{overlaps}
@@ -6,8 +6,5 @@ use Rattle.tlb_sound.proofs.Buckets.{Marked}
 use Rattle.tlb_sound.proofs.overlap_free.Given as goal
 
 abbrev pub invariant-loop-i : goal.invariant-loop-i
-invariant-loop-i l = (l.i ≤ length l.slots / 4) × (length l.seen ≡ 1024) × (pairwise overlaps (drop l.i (slots_of l.slots)) ≡ true)
+invariant-loop-i l = (length l.seen ≡ 1024) × (pairwise overlaps (drop l.i (slots_of l.slots)) ≡ true)
     × Marked l.most l.seen l.mark (drop l.i (slots_of l.slots))
-
-abbrev pub decreases-loop-i : goal.decreases-loop-i
-decreases-loop-i l = l.i

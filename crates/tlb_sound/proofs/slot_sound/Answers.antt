@@ -3,9 +3,6 @@ use Rattle.std.proofs.Common.{sym, ◌∙◌}
 use Rattle.machine.specs.Sound.{slot_sound}
 use Rattle.tlb_sound.proofs.slot_sound.Goals as goal
 
-pub live_sound-requires : goal.live_sound-requires
-live_sound-requires c = (sym c.is_live.ensures ∙ c.if-is_live.true, c.requires)
-
 pub returns-then-is_live : goal.returns-then-is_live
 unfolding slot_sound
 returns-then-is_live c = c.live_sound.ensures ∙ rw (sym c.is_live.ensures ∙ c.if-is_live.true)

@@ -2,14 +2,10 @@
 use mathlib.Core.Path.{ap, sym, ◌∙◌}
 use Rattle.laws.proofs.Bools.{denies-true}
 use Rattle.machine.specs.Slots.{slots_of, words_of}
-use Rattle.machine.specs.Insertion.{overlaps, removes}
+use Rattle.machine.specs.Insertion.{overlaps}
 use Rattle.machine.proofs.Slots.{words_back}
 use Rattle.machine.proofs.Insertion.{removed-none}
 use Rattle.tlb_update.proofs.make_way.Goals as goal
-
-pub returns-then-not-overlaps_none : goal.returns-then-not-overlaps_none
-unfolding removes
-returns-then-not-overlaps_none c = c.remove.ensures.words
 
 pub returns-else-not-overlaps_none : goal.returns-else-not-overlaps_none
 returns-else-not-overlaps_none c =

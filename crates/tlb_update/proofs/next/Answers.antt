@@ -1,32 +1,26 @@
--- `tlb_update::next` meets its contract. The invariant: it holds of slot i. After a turn that goes on, the four tests failed one by one.
-use Prim.Native.Nat.{◌+◌}
-use mathlib.Core.Path.{sym, ◌∙◌}
-use native.Mathlib.Omega.{arith}
-use Rattle.laws.proofs.Bools.{clash}
-use Rattle.tlb_update.proofs.Sifted.{none_more}
+-- `tlb_update::next` meets its contract. The invariant: none passes up to turn k.
+use Rattle.std.proofs.Common.{◌≡◌, ℕ, List, ap, ◌∙◌, arith, rules}
+use Rattle.laws.proofs.Bools.{denies-true}
+use Rattle.tlb.specs.Rows.{row_slot}
+use Rattle.tlb.proofs.ByRow.{rows_length}
+use Rattle.tlb_update.specs.Sieves.{passes}
+use Rattle.tlb_update.proofs.Turns.{none_turn}
 use Rattle.tlb_update.proofs.next.Goals as goal
-use Rattle.tlb_update.proofs.next.Goals.{then-passes-2, else-passes-2+then-passes-3, else-passes-2+else-passes-3}
 
-pub loop-i-init : goal.loop-i-init
-loop-i-init c = (omega arith, c.requires.0, λ j a b. absurd (omega (arith, a, b)))
+pub slice_bounds-as_chunks-count : goal.slice_bounds-as_chunks-count
+slice_bounds-as_chunks-count c = omega (arith, rows_length c.rows.result.now _ c.rows.ensures)
 
-pub returns-then-passes : goal.returns-then-passes
-returns-then-passes c = c.loop-i.invariant
+pub slice_bounds-as_chunks-start : goal.slice_bounds-as_chunks-start
+slice_bounds-as_chunks-start c = omega (arith, rows_length c.rows.result.now _ c.rows.ensures)
 
-pub loop-i-preserved : goal.loop-i-preserved
-loop-i-preserved c =
+pub loop-k-init : goal.loop-k-init
+loop-k-init c = (omega arith, omega (arith, c.requires.0), λ j a b. absurd (omega (arith, a, b)))
+
+pub loop-k-preserved : goal.loop-k-preserved
+loop-k-preserved c =
     let a = c.args in
-    let i = c.loop-i.i in
-    let more = none_more a.sieve a.slots.now a.from in
-    let first = more i (i + 1) (omega arith) (omega arith) (sym c.passes.ensures ∙ c.if-passes.false) c.loop-i.invariant in
-    elim c.if-passes-2.branch [
-      | then-passes-2 w ↦ clash w.if-passes-2.true (sym w.value-is ∙ c.if-passes-4.false)
-      | else-passes-2+then-passes-3 w ↦ clash w.if-passes-3.true (sym w.value-is ∙ c.if-passes-4.false)
-      | else-passes-2+else-passes-3 w ↦
-          more (i + 3) (i + 4) (omega arith) (omega arith) (sym w.passes-else-passes-3.ensures ∙ sym w.value-is ∙ c.if-passes-4.false)
-          (more (i + 2) (i + 3) (omega arith) (omega arith) (sym w.passes-else-passes-2.ensures ∙ w.if-passes-3.false)
-          (more (i + 1) (i + 2) (omega arith) (omega arith) (sym c.passes-else-passes.ensures ∙ w.if-passes-2.false) first))
-    ]
-
-pub returns : goal.returns
-returns c = c.loop-i.invariant
+    let turns = c.as_chunks.ensures in
+    let asked = c.none_passes.ensures (passes a.sieve)
+    (λ k d h p r e q. let z : r ≡ passes a.sieve (row_slot p.now) = search rules in z ∙ ap (λ (row : List ℕ). passes a.sieve (row_slot row)) e) in
+    none_turn a.sieve a.slots.now a.from c.loop-k.k c.rows.result.now c.rows.ensures _ turns.front (omega (arith, turns.front_len))
+    (denies-true asked c.if-not-none_passes.false) c.loop-k.invariant

@@ -1,4 +1,5 @@
 -- `tlb_update::place` meets its contract, for each choice.
+use Rattle.std.proofs.Common.{Some, Ok}
 use Prim.Native.Nat.{ℕ, ◌*◌, ◌+◌, ◌≤◌, ◌<◌}
 use mathlib.Core.Path.{◌≡◌, refl, ap, sym, ◌∙◌}
 use mathlib.Core.List.{List}
@@ -7,7 +8,6 @@ use lib.ListN.{length}
 use Rattle.machine.specs.Slots.{slots_of, with_slot, clear_used}
 use Rattle.machine.specs.declared.Choice.{Choice}
 use Rattle.machine.specs.Insertion.{candidate, choice}
-use Rattle.machine.specs.declared.Placed.TheVariants.{Displaced}
 use Rattle.machine.proofs.Slots.{slots_length, words_back, store_words, store-slots}
 use Rattle.machine.proofs.Insertion.{Chosen, choice-says}
 use Rattle.tlb_update.proofs.place.Goals as goal
@@ -41,7 +41,7 @@ returns-in-Empty c =
 pub returns-in-Unused : goal.returns-in-Unused
 returns-in-Unused c =
     let d = c.displace.ensures in
-    rw c.in-Unused.is (record { words = d.words ∙ store-slots c.args.slots.now _ c.args.new c.requires.0; placed = ap Displaced d.old })
+    rw c.in-Unused.is (record { words = d.words ∙ store-slots c.args.slots.now _ c.args.new c.requires.0; placed = ap (λ x. Ok (Some x)) d.old })
 
 pub returns-in-Cleared : goal.returns-in-Cleared
 returns-in-Cleared c =
@@ -51,7 +51,7 @@ returns-in-Cleared c =
       words = c.store_slot-in-Cleared.ensures
           ∙ ap (λ (w : List ℕ). with_slot w i x) c.clear_used.ensures
           ∙ store_words (clear_used (slots_of c.args.slots.now)) i x;
-      placed = ap Displaced c.slot_at-old.ensures;
+      placed = ap (λ x. Ok (Some x)) c.slot_at-old.ensures;
     })
 
 pub returns-in-Full : goal.returns-in-Full

@@ -11,10 +11,6 @@ use Rattle.tlb_update.proofs.remove_at.Goals as goal
 taken : (which : Removal) {x y : Slot} {r : Bool} → y ≡ x → r ≡ removes which y → removes which x ≡ r
 taken which e r = ap (removes which) (sym e) ∙ sym r
 
-pub returns-then-takes : goal.returns-then-takes
-returns-then-takes c =
-    rw (taken c.args.which c.slot_at-x.ensures c.takes.ensures ∙ c.if-takes.true) (record { words = c.store_slot.ensures; count = refl })
-
 pub returns : goal.returns
 returns c =
     rw (taken c.args.which c.slot_at-x.ensures c.takes.ensures ∙ c.if-takes.false)

@@ -5,7 +5,8 @@ use Rattle.tsb.proofs.tsb_code.Goals as goal
 pub returns : goal.returns
 returns c =
     c.size_code.ensures ∙ rw (
-      c.read_register.ensures,
+      c.read_register.ensures.read,
+      c.number.ensures.value,
       c.other_set-other.ensures.0,
       c.miss_context.ensures,
     )

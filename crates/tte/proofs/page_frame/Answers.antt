@@ -10,4 +10,4 @@ unfolding frame
 returns c =
     let a : ℕ = bits 13 43 c.args.word * 2 ^ 13 in
     let kept : a % 2 ^ 64 ≡ a = omega arith in
-    rw (c.page_start.ensures, c.size_code.ensures, c.address_field.ensures, kept)
+    rw (c.page_start.ensures, c.size_code.ensures, c.bits.ensures, kept)

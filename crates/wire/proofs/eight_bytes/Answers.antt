@@ -1,9 +1,10 @@
--- `wire::eight_bytes` meets its contract: by the contract of `four_bytes`.
+-- `wire::eight_bytes` meets its contract: the eight bytes are there, and `from_be_bytes` reads them.
 -- Assumes nothing.
-use native.Mathlib.Omega.{arith}
-use Rattle.machine.specs.Stream.{eight}
+use mathlib.Core.Path.{◌∙◌}
+use Rattle.wire.proofs.Decodes.{part-eight}
 use Rattle.wire.proofs.eight_bytes.Goals as goal
 
 pub returns : goal.returns
-unfolding eight
-returns c = omega arith
+returns c =
+    let eight = rw c.unwrap.ensures at c.as_array.ensures.cases in
+    c.from_be_bytes.ensures ∙ part-eight _ _ _ eight.same
