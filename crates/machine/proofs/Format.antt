@@ -89,4 +89,5 @@ decodes = record {
       ∙ known_at r c h (le-ltb (length (encoded c ++ r) - 0) (length (encoded c)) (omega (arith, length-append (encoded c) r)));
   unknown = unknown-at;
   short = λ p q r c e i j. decode-shift p q ∙ short-at q r c e i j;
+  numbers = (refl, refl, refl, refl);
 }

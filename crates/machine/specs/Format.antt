@@ -1,10 +1,10 @@
 -- Document 01, "The stream": the wire format of commands as its own text, what a run reads by it, and what it means that the decoder does. Assumes nothing.
 use Rattle.std.specs.Prelude.{ℕ, ◌-◌, ◌^◌, ◌≤◌, ◌<◌, ◌≡◌, Bool, true, ◌||◌, List, [], ◌∷◌, ◌++◌, ltb, length, get_or, Ok, Err}
-use Rattle.machine.specs.Stream.{decode_at}
+use Rattle.machine.specs.Stream.{decode_at, stop_number}
 use Rattle.machine.specs.Ledger.{big_endian}
 use Rattle.machine.specs.declared.Command.{Command}
 use Rattle.machine.specs.declared.Command.TheVariants as command
-use Rattle.machine.specs.declared.Stop.TheVariants.{NoCommand, Truncated}
+use Rattle.machine.specs.declared.Stop.TheVariants.{Unsound, NoCommand, Truncated, NoRoom}
 
 -- a command's own byte, then its operands in order; one that "The stream" marks 8 takes eight bytes, highest first
 unfoldable pub encoded : Command → List ℕ
@@ -70,3 +70,5 @@ pub record Decodes : Type 0 where
   pub unknown : (s : List ℕ) (at : ℕ) → (ltb (get_or s at 0) 1 || ltb 10 (get_or s at 0)) ≡ true → decode_at s at ≡ Err NoCommand
   -- number 3: a command cut off after its first byte
   pub short : (p q r : List ℕ) (c : Command) → encoded c ≡ q ++ r → 1 ≤ length q → 1 ≤ length r → decode_at (p ++ q) (length p) ≡ Err Truncated
+  -- the four numbers themselves
+  pub numbers : (stop_number Unsound ≡ 1) × (stop_number NoCommand ≡ 2) × (stop_number Truncated ≡ 3) × (stop_number NoRoom ≡ 4)

@@ -116,6 +116,7 @@ pub fn hand_back<'a>(
     };
     match ask_table(words, strand, side, zero, other) {
         Ok(asked) => {
+            // not in the pattern: its parts have no names there for the proof
             let (strand, side) = asked;
             entry_of(words, strand, side, zero, other)
         }

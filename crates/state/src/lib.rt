@@ -234,6 +234,7 @@ fn records_sound(state: &State) -> bool
     ensures { result ≡ records_sound (state_in state.now).records }
 {
     let mut all = true;
+    // by index: a record's words stand in three parts of the state
     for i in 0..machine::RECORDS {
         all &= miss_record::record_sound(
             state[machine::SEEN + i],
@@ -281,7 +282,8 @@ pub fn sound_mut(words: &mut [u64]) -> Option<&mut State>
     words.as_mut_array()
 }
 
-// Fills a lent state: mode 2, all else 0. A state of another length is left as it is, and the answer is 1.
+// Fills a lent state: mode 2, all else 0. A state of another length is left as it is, and the answer is 1: the
+// number that C is handed.
 pub fn reset(state: &mut [u64]) -> u8
     ensures words { state.new ≡ reset_of counts state.old }
     ensures number { result ≡ reset_number counts state.old }

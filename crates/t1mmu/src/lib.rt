@@ -61,7 +61,7 @@ pub extern "C" fn t1mmu_run(state: &mut [u64], input: &[u8], output: &mut [u8]) 
     stream::run(state, input, output, false)
 }
 
-// The same of a stream that the caller marks as the hypervisor's: its invalidations are permitted, and nothing else is that is not in the
+// The same, a second call for C, of a stream that the caller marks as the hypervisor's: its invalidations are permitted, and nothing else is that is not in the
 // other call.
 #[unsafe(no_mangle)]
 pub extern "C" fn t1mmu_run_hypervisor(state: &mut [u64], input: &[u8], output: &mut [u8]) -> Report

@@ -111,6 +111,7 @@ fn slots_sound(slots: &[u64], d: Digest) -> bool
     if all_plain(d) {
         return true;
     }
+    // in a loop: of `all` what the test asks of each slot was not proved
     for row in tlb::rows(slots) {
         if !slot_sound(tlb::slot_in(row)) {
             return false;
@@ -141,7 +142,8 @@ fn bucket(owner: u64, page: u64, shift: u64) -> usize
     ((page >> shift ^ mixed) % 1024) as usize
 }
 
-// Whether a live x overlaps a slot. Both are sound, and the spans are those of x's page size.
+// Whether a live x overlaps a slot. Both are sound, and the spans are those of x's page size. A test of its own: that of `tlb::overlaps_none`
+// takes up to 15 % more of a soundness test.
 fn overlaps_sound(x: Slot, row: &Row, span: &[u64; 16]) -> bool
     requires { LiveSound x × (slot_sound (row_slot row.now) ≡ true) × (span.now ≡ spans_of (page_size (size_code x))) }
     ensures { result ≡ overlaps x (row_slot row.now) }
@@ -176,6 +178,7 @@ fn overlap_free(slots: &[u64], code: u64, seen: &mut [u8], mark: u8) -> bool
 {
     let most = block_shift(code);
     let rows = tlb::rows(slots);
+    // by index: the later slots are those behind it
     for i in (0..rows.len()).rev() {
         let x = tlb::slot_in(&rows[i]);
         if tlb::is_live(x) {

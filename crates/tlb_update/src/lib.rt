@@ -19,7 +19,8 @@ fn owned_by(x: Slot, owner: u64) -> bool
     tlb::is_live(x) && x.owner == owner
 }
 
-// The entry that answers to a key, whether its slot is sound or not. What passes the sieve mostly has the page: that is asked first.
+// The entry that answers to a key, whether its slot is sound or not; `tlb::answers` is of sound slots alone. What passes the sieve mostly has
+// the page: that is asked first.
 #[tactic(auto, unfolding(machine::specs::Slots::answers_to, machine::specs::Slots::is_compared))]
 fn answers(x: Slot, key: Key) -> bool
     ensures { result ≡ answers_to key x }
@@ -34,7 +35,7 @@ fn unlocked_of(x: Slot, partition: u64) -> bool
     tlb::is_live(x) && (tlb::partition_of(x) == partition && !tlb::is_locked(x))
 }
 
-// Whether a removal takes the slot's entry.
+// Whether a removal takes the slot's entry: by its kind, as the definition `removes` has it.
 #[tactic(auto, unfolding(machine::specs::Insertion::removes))]
 fn takes(which: Removal, x: Slot) -> bool
     ensures { result ≡ removes which x }
