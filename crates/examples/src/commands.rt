@@ -6,7 +6,7 @@ ghost use Rattle.std.specs.Int.{w64, to_be_bytes};
 use crate::State;
 use crate::places::Place;
 use machine::Slot;
-use std::{fmt, io};
+use std::fmt;
 
 const STRAND: u8 = 0;
 
@@ -109,17 +109,17 @@ pub fn insert(state: &mut State, new: Slot) -> Reply {
 }
 
 // What a privileged load answers, with translation on: a physical address, or a trap's number.
-pub fn print_load(rt: &impl Print, state: &mut State, place: Place) -> io::Result<()> {
+pub fn print_load(rt: &impl Print, state: &mut State, place: Place) {
     write(state, TRANSLATION, 3);
     write(state, PRIMARY_CONTEXT, place.context);
     write(state, MODE, 1);
     let bytes = command([ACCESS, STRAND, LOAD, PRIMARY, EIGHT_BYTES], place.address);
     let reply = answer_to(state, &bytes);
-    println!(rt; "  by commands: load of {place}: {reply}")
+    let _ = println!(rt; "  by commands: load of {place}: {reply}");
 }
 
 // How many entries are live: none is locked, so demap all removes them all, and its answer has the count.
-pub fn print_live(rt: &impl Print, state: &mut State) -> io::Result<()> {
+pub fn print_live(rt: &impl Print, state: &mut State) {
     let reply = answer_to(state, &[DEMAP_ALL, HOST, SIDE]);
-    println!(rt; "  by commands: {reply} live")
+    let _ = println!(rt; "  by commands: {reply} live");
 }

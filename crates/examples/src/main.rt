@@ -17,7 +17,7 @@ ghost use Rattle.examples.specs.Lookup.{found_slot};
 use commands::Reply;
 use machine::{Key, Removal, Slot, VirtualAddress};
 use places::{Page, Place};
-use std::{fmt, io};
+use std::fmt;
 
 // The slots of one side, and the state of the whole unit.
 type Side = [u64; machine::SIDE_WORDS];
@@ -55,17 +55,17 @@ fn lookup(slots: &[u64], key: Key) -> Slot
 }
 
 // What a lookup finds: an entry's page, or nothing.
-fn print_lookup(rt: &impl Print, slots: &Side, place: Place) -> io::Result<()> {
+fn print_lookup(rt: &impl Print, slots: &Side, place: Place) {
     let x = lookup(slots, key(0, place.context, place.address));
     if tlb::is_live(x) {
-        println!(rt; "  lookup of {place}: {}", Page(x))
+        let _ = println!(rt; "  lookup of {place}: {}", Page(x));
     } else {
-        println!(rt; "  lookup of {place}: nothing")
+        let _ = println!(rt; "  lookup of {place}: nothing");
     }
 }
 
 // Whether the side is sound, and how many entries are live: they are counted by removing them all.
-fn print_side(rt: &impl Print, slots: &mut Side) -> io::Result<()> {
+fn print_side(rt: &impl Print, slots: &mut Side) {
     let mut seen = [0; 1024];
     let sound = if tlb_sound::side_sound(slots, &mut seen, 1) {
         "sound"
@@ -73,11 +73,11 @@ fn print_side(rt: &impl Print, slots: &mut Side) -> io::Result<()> {
         "not sound"
     };
     let live = tlb_update::remove(slots, Removal::Everything);
-    println!(rt; "  {live} live, {sound}")
+    let _ = println!(rt; "  {live} live, {sound}");
 }
 
 // Document 01's seventh example: an 8 KB page, and then the 64 KB page around it, each in the context given.
-fn overlap(rt: &impl Print, first: u64, second: u64) -> io::Result<()> {
+fn overlap(rt: &impl Print, first: u64, second: u64) {
     let mut slots = [0; machine::SIDE_WORDS];
     let mut state = [0; machine::STATE_WORDS];
     let small = entry(key(0, first, 0x40_2000), 0);
@@ -87,7 +87,7 @@ fn overlap(rt: &impl Print, first: u64, second: u64) -> io::Result<()> {
     state::reset(&mut state);
     commands::insert(&mut state, small);
     commands::insert(&mut state, large);
-    println!(rt; "{}, then {}:", Page(small), Page(large))?;
+    let _ = println!(rt; "{}, then {}:", Page(small), Page(large));
     print_lookup(
         rt,
         &slots,
@@ -95,7 +95,7 @@ fn overlap(rt: &impl Print, first: u64, second: u64) -> io::Result<()> {
             address: 0x40_2000,
             context: first,
         },
-    )?;
+    );
     commands::print_load(
         rt,
         &mut state,
@@ -103,9 +103,9 @@ fn overlap(rt: &impl Print, first: u64, second: u64) -> io::Result<()> {
             address: 0x40_2008,
             context: first,
         },
-    )?;
-    print_side(rt, &mut slots)?;
-    commands::print_live(rt, &mut state)
+    );
+    print_side(rt, &mut slots);
+    commands::print_live(rt, &mut state);
 }
 
 // The key of insertion q, from 1: 8 KB pages one after the other.
@@ -123,55 +123,50 @@ fn print_displaced<D: fmt::Display + Drop>(
     q: u64,
     old: D,
     new: Option<usize>,
-) -> io::Result<()> {
+) {
     if let Some(i) = new {
-        println!(rt; "  {by}insertion {q} displaces {old} from slot {i}")
+        let _ = println!(rt; "  {by}insertion {q} displaces {old} from slot {i}");
     } else {
-        println!(rt; "  {by}insertion {q} displaces {old}")
+        let _ = println!(rt; "  {by}insertion {q} displaces {old}");
     }
 }
 
 // Insertion q, and what it displaces.
-fn insertion(rt: &impl Print, slots: &mut Side, state: &mut State, q: u64) -> io::Result<()>
+fn insertion(rt: &impl Print, slots: &mut Side, state: &mut State, q: u64)
     requires { (1 ≤ q) × (q ≤ 66) }
 {
     let new = numbered(q);
     if let Ok(Some(old)) = tlb_update::insert(slots, entry(new, 0)) {
         let found = search_count::search_any(slots, new).found;
-        print_displaced(rt, "", q, Page(old), found)?;
+        print_displaced(rt, "", q, Page(old), found);
     }
     if let Reply::Displaced(old) = commands::insert(state, entry(new, 0)) {
         let found = search_count::search_any(commands::side_of(state), new).found;
-        print_displaced(rt, "by commands: ", q, old, found)?;
+        print_displaced(rt, "by commands: ", q, old, found);
     }
-    Ok(())
 }
 
 // Document 01's eighth example: a side is filled with 64 unlocked entries, and two more displace those of slots 0 and 1.
-fn displacement(rt: &impl Print) -> io::Result<()> {
+fn displacement(rt: &impl Print) {
     let mut slots = [0; machine::SIDE_WORDS];
     let mut state = [0; machine::STATE_WORDS];
     state::reset(&mut state);
-    println!(rt;
+    let _ = println!(rt;
         "{}, and so on to {}:",
         Page(entry(numbered(1), 0)),
         Page(entry(numbered(66), 0))
-    )?;
+    );
     for q in 1..=66 {
-        insertion(rt, &mut slots, &mut state, q)?;
+        insertion(rt, &mut slots, &mut state, q);
     }
-    print_side(rt, &mut slots)?;
-    commands::print_live(rt, &mut state)
+    print_side(rt, &mut slots);
+    commands::print_live(rt, &mut state);
 }
 
-fn show(rt: &impl Print) -> io::Result<()> {
-    overlap(rt, 5, 5)?;
-    overlap(rt, 5, 6)?;
-    displacement(rt)?;
-    searches::show(rt)
-}
-
+// A line that cannot be written is passed over, here and in the modules: those behind it are tried, and the status is 0.
 fn main(rt: HostRuntime) {
-    // output that cannot be written ends the program, which has nothing else to do: status 0
-    let _ = show(&rt);
+    overlap(&rt, 5, 5);
+    overlap(&rt, 5, 6);
+    displacement(&rt);
+    searches::show(&rt);
 }

@@ -1,5 +1,5 @@
 // Pages and addresses as they are printed.
-ghost use Rattle.std.specs.Prelude.{◌≡◌, ◌+◌, ◌<◌};
+ghost use Rattle.std.specs.Prelude.{◌≡◌, ◌+◌, ◌*◌, ◌/◌, ◌%◌, ◌<◌};
 
 use machine::Slot;
 use std::fmt;
@@ -16,7 +16,9 @@ pub struct Place {
 
 impl Place {
     // The page and the context as one word.
-    pub fn tag(self) -> u64 {
+    pub fn tag(self) -> u64
+        ensures { result ≡ self.address / CONTEXTS * CONTEXTS + self.context % CONTEXTS }
+    {
         self.address / CONTEXTS * CONTEXTS + self.context % CONTEXTS
     }
 

@@ -3,10 +3,9 @@
 use crate::places::Owned;
 use crate::{Side, entry, key};
 use machine::Removal;
-use std::io;
 
 // What stands in the first seven slots.
-fn print_slots(rt: &impl Print, slots: &Side) -> io::Result<()> {
+fn print_slots(rt: &impl Print, slots: &Side) {
     for i in 0..7 {
         let x = tlb::slot_at(slots, i);
         if tlb::is_live(x) {
@@ -14,22 +13,21 @@ fn print_slots(rt: &impl Print, slots: &Side) -> io::Result<()> {
                 partition: tlb::partition_of(x),
                 address: x.page,
             };
-            println!(rt; "  slot {i}: {page}")?;
+            let _ = println!(rt; "  slot {i}: {page}");
         } else {
-            println!(rt; "  slot {i}: empty")?;
+            let _ = println!(rt; "  slot {i}: empty");
         }
     }
-    Ok(())
 }
 
 // What a search finds, and how many pages it compared. Of partition 0 the key's owner word is 0, as an empty slot's is.
-fn print_search(rt: &impl Print, slots: &Side, page: Owned) -> io::Result<()> {
+fn print_search(rt: &impl Print, slots: &Side, page: Owned) {
     let searched = search_count::search_any(slots, key(page.partition, 0, page.address));
     let compared = searched.compared;
     if let Some(i) = searched.found {
-        println!(rt; "  search for {page}: slot {i}, pages compared: {compared}")
+        let _ = println!(rt; "  search for {page}: slot {i}, pages compared: {compared}");
     } else {
-        println!(rt; "  search for {page}: nothing, pages compared: {compared}")
+        let _ = println!(rt; "  search for {page}: nothing, pages compared: {compared}");
     }
 }
 
@@ -43,13 +41,12 @@ fn fill(slots: &mut Side) {
     tlb_update::remove(slots, Removal::Page(key(0, 0, 0x4000)));
 }
 
-pub fn show(rt: &impl Print) -> io::Result<()> {
+pub fn show(rt: &impl Print) {
     let mut slots = [0; machine::SIDE_WORDS];
     fill(&mut slots);
-    println!(rt; "pages of two partitions, in context 0 of each:")?;
-    print_slots(rt, &slots)?;
+    let _ = println!(rt; "pages of two partitions, in context 0 of each:");
+    print_slots(rt, &slots);
     for (partition, address) in [(0, 0x2000), (0, 0x6000), (0, 0), (1, 0x6000), (1, 0x8000)] {
-        print_search(rt, &slots, Owned { partition, address })?;
+        print_search(rt, &slots, Owned { partition, address });
     }
-    Ok(())
 }

@@ -1,7 +1,7 @@
 -- `tlb_sound::overlap_free` meets its contract. The invariant: no two of the slots from i on overlap, and a bucket without the mark
 -- holds none of them.
 use Rattle.std.proofs.Common.{◌≡◌, ℕ, ◌+◌, ◌-◌, ◌<◌, ◌≤◌, true, false, eqb, List, length, get_or, take, drop, map, sym, ap, ◌∙◌, arith, length-set}
-use Rattle.laws.specs.Tests.{any_of, pairwise}
+use Rattle.laws.specs.Tests.{any_of, all_of, pairwise}
 use Rattle.laws.proofs.Alls.{all-get}
 use Rattle.laws.proofs.Bools.{denies-true, denies-false}
 use Rattle.laws.proofs.Walks.{pair-fail, pair-pass, pair_end, pair-drop}
@@ -72,7 +72,7 @@ shared_overlaps_none-requires c =
     let its : c.bucket-b.result ≡ bucket_of c.block_shift-most.result (get_or all j no_slot).owner (get_or all j no_slot).page =
     c.bucket-b.ensures ∙ rw here.is in (
       (sym c.is_live.ensures ∙ c.if-is_live.true, ap slot_sound here.is ∙ all-get slot_sound no_slot all j no_slot-sound c.requires.0),
-      rw here.on (sound_behind all (j + 1) c.requires.0),
+      ap (all_of slot_sound) here.on ∙ sound_behind all (j + 1) c.requires.0,
       λ e. ap (λ (s : List Slot). any_of (overlaps c.slot_in-x.result) s) here.on
           ∙ ap (λ x. any_of (overlaps x) (drop (j + 1) all)) here.is
           ∙ alone _ c.loop-i.seen f.mark all j here.within here.later f.code wide c.requires.1
