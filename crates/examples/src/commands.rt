@@ -4,9 +4,10 @@ ghost use Rattle.std.specs.Prelude.{◌≡◌, ◌++◌};
 ghost use Rattle.std.specs.Int.{w64, to_be_bytes};
 
 use crate::State;
+use crate::output::Output;
 use crate::places::Place;
 use machine::Slot;
-use std::fmt;
+use std::io::Write;
 
 const STRAND: u8 = 0;
 
@@ -62,18 +63,6 @@ impl From<[u8; machine::ANSWER_BYTES]> for Reply {
     }
 }
 
-impl fmt::Display for Reply {
-    fn fmt<W: fmt::Write>(&self, f: &mut fmt::Formatter<W>) -> fmt::Result {
-        match *self {
-            Reply::Done(count) => write!(f, "{count}"),
-            Reply::Physical(address) => write!(f, "{address:#x}"),
-            Reply::Trap(number) => write!(f, "trap {number:#x}"),
-            Reply::Displaced(place) => write!(f, "{place}"),
-            Reply::Other(kind) => write!(f, "kind {kind}"),
-        }
-    }
-}
-
 // What stands before a command's last operand, and that operand, of eight bytes. A command with less before it starts later.
 fn command(before: [u8; 5], value: u64) -> [u8; 13]
     ensures { result ≡ before ++ to_be_bytes w64 value }
@@ -109,17 +98,24 @@ pub fn insert(state: &mut State, new: Slot) -> Reply {
 }
 
 // What a privileged load answers, with translation on: a physical address, or a trap's number.
-pub fn print_load(rt: &impl Print, state: &mut State, place: Place) {
+pub fn print_load(out: &mut Output, state: &mut State, place: Place) {
     write(state, TRANSLATION, 3);
     write(state, PRIMARY_CONTEXT, place.context);
     write(state, MODE, 1);
     let bytes = command([ACCESS, STRAND, LOAD, PRIMARY, EIGHT_BYTES], place.address);
-    let reply = answer_to(state, &bytes);
-    let _ = println!(rt; "  by commands: load of {place}: {reply}");
+    let _ = write!(out, "  by commands: load of 0x{place}");
+    let _ = match answer_to(state, &bytes) {
+        Reply::Physical(address) => write!(out, ": 0x{address:x}"),
+        Reply::Trap(number) => write!(out, ": trap 0x{number:x}"),
+        Reply::Done(_) | Reply::Displaced(_) | Reply::Other(_) => write!(out, ": no load"),
+    };
+    let _ = writeln!(out);
 }
 
 // How many entries are live: none is locked, so demap all removes them all, and its answer has the count.
-pub fn print_live(rt: &impl Print, state: &mut State) {
-    let reply = answer_to(state, &[DEMAP_ALL, HOST, SIDE]);
-    let _ = println!(rt; "  by commands: {reply} live");
+pub fn print_live(out: &mut Output, state: &mut State) {
+    let _ = match answer_to(state, &[DEMAP_ALL, HOST, SIDE]) {
+        Reply::Done(count) => write!(out, "  by commands: {count} live\n"),
+        _ => write!(out, "  by commands: no count\n"),
+    };
 }

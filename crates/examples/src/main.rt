@@ -4,6 +4,7 @@
 #![tactic(auto)]
 
 mod commands;
+mod output;
 mod places;
 mod searches;
 
@@ -16,8 +17,9 @@ ghost use Rattle.examples.specs.Lookup.{found_slot};
 
 use commands::Reply;
 use machine::{Key, Removal, Slot, VirtualAddress};
+use output::Output;
 use places::{Page, Place};
-use std::fmt;
+use std::io::Write;
 
 // The slots of one side, and the state of the whole unit.
 type Side = [u64; machine::SIDE_WORDS];
@@ -55,29 +57,31 @@ fn lookup(slots: &[u64], key: Key) -> Slot
 }
 
 // What a lookup finds: an entry's page, or nothing.
-fn print_lookup(rt: &impl Print, slots: &Side, place: Place) {
+fn print_lookup(out: &mut Output, slots: &Side, place: Place) {
     let x = lookup(slots, key(0, place.context, place.address));
-    if tlb::is_live(x) {
-        let _ = println!(rt; "  lookup of {place}: {}", Page(x));
+    let _ = write!(out, "  lookup of 0x{place}: ");
+    let _ = if tlb::is_live(x) {
+        write!(out, "{}", Page(x))
     } else {
-        let _ = println!(rt; "  lookup of {place}: nothing");
-    }
+        write!(out, "nothing")
+    };
+    let _ = writeln!(out);
 }
 
 // Whether the side is sound, and how many entries are live: they are counted by removing them all.
-fn print_side(rt: &impl Print, slots: &mut Side) {
+fn print_side(out: &mut Output, slots: &mut Side) {
     let mut seen = [0; 1024];
-    let sound = if tlb_sound::side_sound(slots, &mut seen, 1) {
-        "sound"
+    let negation = if tlb_sound::side_sound(slots, &mut seen, 1) {
+        ""
     } else {
-        "not sound"
+        "not "
     };
     let live = tlb_update::remove(slots, Removal::Everything);
-    let _ = println!(rt; "  {live} live, {sound}");
+    let _ = write!(out, "  {live} live, {negation}sound\n");
 }
 
 // Document 01's seventh example: an 8 KB page, and then the 64 KB page around it, each in the context given.
-fn overlap(rt: &impl Print, first: u64, second: u64) {
+fn overlap(out: &mut Output, first: u64, second: u64) {
     let mut slots = [0; machine::SIDE_WORDS];
     let mut state = [0; machine::STATE_WORDS];
     let small = entry(key(0, first, 0x40_2000), 0);
@@ -87,9 +91,9 @@ fn overlap(rt: &impl Print, first: u64, second: u64) {
     state::reset(&mut state);
     commands::insert(&mut state, small);
     commands::insert(&mut state, large);
-    let _ = println!(rt; "{}, then {}:", Page(small), Page(large));
+    let _ = write!(out, "{}, then {}:\n", Page(small), Page(large));
     print_lookup(
-        rt,
+        out,
         &slots,
         Place {
             address: 0x40_2000,
@@ -97,15 +101,15 @@ fn overlap(rt: &impl Print, first: u64, second: u64) {
         },
     );
     commands::print_load(
-        rt,
+        out,
         &mut state,
         Place {
             address: 0x40_2008,
             context: first,
         },
     );
-    print_side(rt, &mut slots);
-    commands::print_live(rt, &mut state);
+    print_side(out, &mut slots);
+    commands::print_live(out, &mut state);
 }
 
 // The key of insertion q, from 1: 8 KB pages one after the other.
@@ -116,57 +120,55 @@ fn numbered(q: u64) -> Key
     key(0, 5, (q - 1) * 8192)
 }
 
-// What an insertion displaced, and from which slot: that in which the new entry is found.
-fn print_displaced<D: fmt::Display + Drop>(
-    rt: &impl Print,
-    by: &str,
-    q: u64,
-    old: D,
-    new: Option<usize>,
-) {
+// From which slot an insertion displaced: that in which the new entry is found.
+fn print_from_slot(out: &mut Output, new: Option<usize>) {
     if let Some(i) = new {
-        let _ = println!(rt; "  {by}insertion {q} displaces {old} from slot {i}");
-    } else {
-        let _ = println!(rt; "  {by}insertion {q} displaces {old}");
+        let _ = write!(out, " from slot {i}");
     }
+    let _ = writeln!(out);
 }
 
 // Insertion q, and what it displaces.
-fn insertion(rt: &impl Print, slots: &mut Side, state: &mut State, q: u64)
+fn insertion(out: &mut Output, slots: &mut Side, state: &mut State, q: u64)
     requires { (1 ≤ q) × (q ≤ 66) }
 {
     let new = numbered(q);
     if let Ok(Some(old)) = tlb_update::insert(slots, entry(new, 0)) {
-        let found = search_count::search_any(slots, new).found;
-        print_displaced(rt, "", q, Page(old), found);
+        let _ = write!(out, "  insertion {q} displaces {}", Page(old));
+        print_from_slot(out, search_count::search_any(slots, new).found);
     }
     if let Reply::Displaced(old) = commands::insert(state, entry(new, 0)) {
-        let found = search_count::search_any(commands::side_of(state), new).found;
-        print_displaced(rt, "by commands: ", q, old, found);
+        let _ = write!(out, "  by commands: insertion {q} displaces 0x{old}");
+        print_from_slot(
+            out,
+            search_count::search_any(commands::side_of(state), new).found,
+        );
     }
 }
 
 // Document 01's eighth example: a side is filled with 64 unlocked entries, and two more displace those of slots 0 and 1.
-fn displacement(rt: &impl Print) {
+fn displacement(out: &mut Output) {
     let mut slots = [0; machine::SIDE_WORDS];
     let mut state = [0; machine::STATE_WORDS];
     state::reset(&mut state);
-    let _ = println!(rt;
-        "{}, and so on to {}:",
+    let _ = write!(
+        out,
+        "{}, and so on to {}:\n",
         Page(entry(numbered(1), 0)),
         Page(entry(numbered(66), 0))
     );
     for q in 1..=66 {
-        insertion(rt, &mut slots, &mut state, q);
+        insertion(out, &mut slots, &mut state, q);
     }
-    print_side(rt, &mut slots);
-    commands::print_live(rt, &mut state);
+    print_side(out, &mut slots);
+    commands::print_live(out, &mut state);
 }
 
-// A line that cannot be written is passed over, here and in the modules: those behind it are tried, and the status is 0.
+// The status is 0 whatever could be written.
 fn main(rt: HostRuntime) {
-    overlap(&rt, 5, 5);
-    overlap(&rt, 5, 6);
-    displacement(&rt);
-    searches::show(&rt);
+    let mut out = Output(rt.stdout());
+    overlap(&mut out, 5, 5);
+    overlap(&mut out, 5, 6);
+    displacement(&mut out);
+    searches::show(&mut out);
 }

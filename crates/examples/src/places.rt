@@ -7,7 +7,7 @@ use std::fmt;
 // A page's address plus a context, as in tag access: the context is below this.
 const CONTEXTS: u64 = 0x2000;
 
-// An address of a context, as in "0x402000 in context 5".
+// An address of a context, as in "402000 in context 5": the 0x is written with the text before it.
 #[derive(Clone, Copy)]
 pub struct Place {
     pub address: u64,
@@ -45,7 +45,7 @@ impl From<Slot> for Place {
 
 impl fmt::Display for Place {
     fn fmt<W: fmt::Write>(&self, f: &mut fmt::Formatter<W>) -> fmt::Result {
-        write!(f, "{:#x} in context {}", self.address, self.context)
+        write!(f, "{:x} in context {}", self.address, self.context)
     }
 }
 
@@ -56,7 +56,7 @@ pub struct Page(pub Slot);
 impl fmt::Display for Page {
     fn fmt<W: fmt::Write>(&self, f: &mut fmt::Formatter<W>) -> fmt::Result {
         let kilobytes = pages::page_size(self.0.word % 16) / 1024;
-        write!(f, "{kilobytes} KB at {}", Place::from(self.0))
+        write!(f, "{kilobytes} KB at 0x{}", Place::from(self.0))
     }
 }
 
@@ -69,6 +69,6 @@ pub struct Owned {
 
 impl fmt::Display for Owned {
     fn fmt<W: fmt::Write>(&self, f: &mut fmt::Formatter<W>) -> fmt::Result {
-        write!(f, "{:#x} of partition {}", self.address, self.partition)
+        write!(f, "0x{:x} of partition {}", self.address, self.partition)
     }
 }
